@@ -1,0 +1,4 @@
+pub mod Sum
+pub mod Division
+pub mod Bytes
+pub mod Laws

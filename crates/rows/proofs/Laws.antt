@@ -1,0 +1,97 @@
+-- From tests to rows, and both ways between a call's refusal and its rows.
+-- Assumes nothing.
+use mathlib.Core.Path.{_≡_, refl, sym, ap, _∙_, subst}
+use mathlib.Core.Bool.{Bool, true, false, cond, not, _||_, true≢false}
+use mathlib.Core.List.{List, [], _∷_}
+use mathlib.Core.Logic.{_⊎_, inl, inr, ⊎-elim, _↔_}
+use mathlib.Core.Option.{Option, some, none}
+use Prim.Native.Nat.{ℕ, _≤_, _<_}
+use native.Mathlib.Omega.{arith}
+use borrow.Author.Tests.{ltb-true, ltb-false, leb-true, leb-false, eqb-true, eqb-false, not-true, not-false}
+use lib.Dec.{ltb, leb, eqb}
+use Rattle.rows.specs.Rows.{Row, First, NoRow, Ranked, Test, firstOf}
+
+-- ---- a test decides a condition
+
+pub record Decides (b : Bool) (P : Type 0) : Type 0 where
+  pub so : b ≡ true → P
+  pub not-so : b ≡ false → P → ⊥
+
+pub decides-lt : (a b : ℕ) → Decides (ltb a b) (a < b)
+decides-lt a b = record { so = ltb-true a b; not-so = λ e h. let l : b ≤ a = ltb-false a b e in omega arith }
+
+pub decides-le : (a b : ℕ) → Decides (leb a b) (a ≤ b)
+decides-le a b = record { so = leb-true a b; not-so = λ e h. let l : b < a = leb-false a b e in omega arith }
+
+pub decides-eq : (a b : ℕ) → Decides (eqb a b) (a ≡ b)
+decides-eq a b = record { so = eqb-true a b; not-so = eqb-false a b }
+
+pub decides-not : {b : Bool} {P : Type 0} → Decides b P → Decides (not b) (P → ⊥)
+decides-not {b} d = record { so = λ e. d .not-so (not-true b e); not-so = λ e n. n (d .so (not-false b e)) }
+
+pub decides-or : {a b : Bool} {P Q : Type 0} → Decides a P → Decides b Q → Decides (a || b) (P ⊎ Q)
+decides-or {a} {b} p q = go a b p q
+  where
+    go : (a b : Bool) {P Q : Type 0} → Decides a P → Decides b Q → Decides (a || b) (P ⊎ Q)
+    go true b p q = record { so = λ e. inl (p .so refl); not-so = λ e. absurd (true≢false e) }
+    go false b p q = record { so = λ e. inr (q .so e); not-so = λ e s. ⊎-elim (p .not-so refl) (q .not-so e) s }
+
+-- the same condition in other words
+pub decides-as : {b : Bool} {P Q : Type 0} → Decides b P → (P → Q) → (Q → P) → Decides b Q
+decides-as d f g = record { so = λ e. f (d .so e); not-so = λ e q. d .not-so e (g q) }
+
+-- ---- tests that decide the rows one by one give what the rows give
+
+abbrev pub Fit : {F : Type 0} → List (Test F) → List (Row F) → Type 0
+Fit [] [] = Unit {0}
+Fit [] (r ∷ rs) = ⊥
+Fit (t ∷ ts) [] = ⊥
+Fit (t ∷ ts) (r ∷ rs) = Decides (t .tells) (r .holds) × ((t .gives ≡ r .gives) × Fit ts rs)
+
+pub ranked : {F : Type 0} (ts : List (Test F)) (rs : List (Row F)) → Fit ts rs → Ranked rs (firstOf ts)
+ranked [] [] fit = tt
+ranked [] (r ∷ rs) fit = absurd fit
+ranked (t ∷ ts) [] fit = absurd fit
+ranked {F} (t ∷ ts) (r ∷ rs) fit = by-test (t .tells) refl (firstOf ts) (ranked ts rs (fit .1 .1))
+  where
+    later : (o : Option F) → (r .holds → ⊥) → Ranked rs o → Ranked (r ∷ rs) o
+    later none n p = (n, p)
+    later (some f) n p = inr (n, p)
+
+    by-test : (b : Bool) → t .tells ≡ b → (o : Option F) → Ranked rs o → Ranked (r ∷ rs) (cond b (some (t .gives)) o)
+    by-test true e o p = inl (fit .0 .so e, fit .1 .0)
+    by-test false e o p = later o (fit .0 .not-so e) p
+
+-- ---- both directions: a refusal is given exactly when its row is the first that holds, and none exactly when no row does
+
+first-once : {F : Type 0} (rs : List (Row F)) {f g : F} → First rs f → First rs g → f ≡ g
+first-once [] p q = absurd p
+first-once (r ∷ rs) p q =
+    ⊎-elim
+    (λ a. ⊎-elim (λ b. a .1 ∙ sym (b .1)) (λ b. absurd (b .0 (a .0))) q)
+    (λ a. ⊎-elim (λ b. absurd (a .0 (b .0))) (λ b. first-once rs (a .1) (b .1)) q)
+    p
+
+first-some : {F : Type 0} (rs : List (Row F)) (f : F) → First rs f → NoRow rs → ⊥
+first-some [] f p n = p
+first-some (r ∷ rs) f p n = ⊎-elim (λ a. n .0 (a .0)) (λ a. first-some rs f (a .1) (n .1)) p
+
+pub refused-exactly : {F : Type 0} (rs : List (Row F)) (o : Option F) → Ranked rs o → (f : F) → (o ≡ some f) ↔ First rs f
+refused-exactly {F} rs o p f = (there o p, back o p)
+  where
+    there : (o : Option F) → Ranked rs o → o ≡ some f → First rs f
+    there o p e = subst (Ranked rs) e p
+
+    back : (o : Option F) → Ranked rs o → First rs f → o ≡ some f
+    back none p q = absurd (first-some rs f q p)
+    back (some g) p q = ap some (first-once rs p q)
+
+pub done-exactly : {F : Type 0} (rs : List (Row F)) (o : Option F) → Ranked rs o → (o ≡ none) ↔ NoRow rs
+done-exactly {F} rs o p = (there o p, back o p)
+  where
+    there : (o : Option F) → Ranked rs o → o ≡ none → NoRow rs
+    there o p e = subst (Ranked rs) e p
+
+    back : (o : Option F) → Ranked rs o → NoRow rs → o ≡ none
+    back none p q = refl
+    back (some g) p q = absurd (first-some rs g p q)
