@@ -40,27 +40,27 @@ decides-or {a} {b} p q = go a b p q
 pub decides-as : {b : Bool} {P Q : Type 0} → Decides b P → (P → Q) → (Q → P) → Decides b Q
 decides-as d f g = record { so = λ e. f (d .so e); not-so = λ e q. d .not-so e (g q) }
 
--- ---- tests that decide the rows one by one give what the rows give
+-- ---- tests that decide the rows one by one, each where no earlier row holds, give what the rows give
 
 abbrev pub Fit : {F : Type 0} → List (Test F) → List (Row F) → Type 0
 Fit [] [] = Unit {0}
 Fit [] (r ∷ rs) = ⊥
 Fit (t ∷ ts) [] = ⊥
-Fit (t ∷ ts) (r ∷ rs) = Decides (t .tells) (r .holds) × ((t .gives ≡ r .gives) × Fit ts rs)
+Fit (t ∷ ts) (r ∷ rs) = Decides (t .tells) (r .holds) × ((t .gives ≡ r .gives) × ((r .holds → ⊥) → Fit ts rs))
 
 pub ranked : {F : Type 0} (ts : List (Test F)) (rs : List (Row F)) → Fit ts rs → Ranked rs (firstOf ts)
 ranked [] [] fit = tt
 ranked [] (r ∷ rs) fit = absurd fit
 ranked (t ∷ ts) [] fit = absurd fit
-ranked {F} (t ∷ ts) (r ∷ rs) fit = by-test (t .tells) refl (firstOf ts) (ranked ts rs (fit .1 .1))
+ranked {F} (t ∷ ts) (r ∷ rs) fit = by-test (t .tells) refl (firstOf ts) (λ n. ranked ts rs (fit .1 .1 n))
   where
     later : (o : Option F) → (r .holds → ⊥) → Ranked rs o → Ranked (r ∷ rs) o
     later none n p = (n, p)
     later (some f) n p = inr (n, p)
 
-    by-test : (b : Bool) → t .tells ≡ b → (o : Option F) → Ranked rs o → Ranked (r ∷ rs) (cond b (some (t .gives)) o)
+    by-test : (b : Bool) → t .tells ≡ b → (o : Option F) → ((r .holds → ⊥) → Ranked rs o) → Ranked (r ∷ rs) (cond b (some (t .gives)) o)
     by-test true e o p = inl (fit .0 .so e, fit .1 .0)
-    by-test false e o p = later o (fit .0 .not-so e) p
+    by-test false e o p = let n : r .holds → ⊥ = fit .0 .not-so e in later o n (p n)
 
 -- ---- both directions: a refusal is given exactly when its row is the first that holds, and none exactly when no row does
 

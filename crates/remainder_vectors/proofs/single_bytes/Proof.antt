@@ -1,0 +1,35 @@
+-- `single_bytes` ends.
+-- Assumes nothing.
+use Prim.Native.Nat.{_≤_, _-_}
+use borrow.Author.Needs.{needs}
+use Rattle.remainder_vectors.proofs.single_bytes.Statement.{statement}
+use Rattle.remainder_vectors.proofs.single_bytes.Tie as tie
+
+abbrev Inv-loop : tie.InvT-loop
+Inv-loop high₀ high = high ≤ 16
+
+abbrev μ-loop : tie.MeasureT-loop
+μ-loop high₀ high = 16 - high
+
+loop-holds : tie.Need-loop-holds Inv-loop μ-loop
+loop-holds c = search needs
+
+line-of-requires : tie.Need-line-of-requires Inv-loop μ-loop
+line-of-requires c κs = search needs
+
+add-high : tie.Need-add-high Inv-loop μ-loop
+add-high c = search needs
+
+loop-less : tie.Need-loop-less Inv-loop μ-loop
+loop-less c = search needs
+
+loop-again : tie.Need-loop-again Inv-loop μ-loop
+loop-again c = search needs
+
+returns : tie.Need-returns Inv-loop μ-loop
+returns c = search needs
+
+pub single-bytes-spec : {M : Type 1} → statement M
+single-bytes-spec =
+    tie.close
+    (tie.spec Inv-loop μ-loop loop-holds line-of-requires add-high loop-less loop-again returns)
