@@ -3,10 +3,16 @@
 use mathlib.Core.Path.{_≡_, refl, sym, ap, _∙_}
 use mathlib.Core.List.{List, [], _∷_, _++_}
 use Prim.Native.Nat.{ℕ, zero, suc, _+_, _≤_, _<_}
-use native.Mathlib.Nat.{suc-inj, le-of-suc-le-suc, not-suc-le-zero}
+use native.Mathlib.Nat.{le-of-suc-le-suc, not-suc-le-zero, add-suc, suc-add}
+use native.Mathlib.Numerals.{add-one}
 use native.Mathlib.Omega.{arith}
-use lib.ListN.{length, take, drop, set}
+use lib.ListN.{length, getD, take, drop, set}
+use lib.Seq.{drop-cons}
 use Rattle.lent.specs.Lent.{over, overAt, Lays}
+
+-- a walk along a list, one step on
+pub drop-next : (xs : List ℕ) (i : ℕ) → i < length xs → drop i xs ≡ getD xs i 0 ∷ drop (i + 1) xs
+drop-next xs i h = rw (add-one, drop-cons xs i 0)
 
 -- no buffer grows or shrinks
 pub length-over : (xs d : List ℕ) → length (over xs d) ≡ length d
@@ -56,12 +62,14 @@ overAt-set k x xs [] h = absurd (not-suc-le-zero h)
 overAt-set zero x xs (y ∷ d) h = refl
 overAt-set (suc k) x xs (y ∷ d) h = ap (λ (l : List ℕ). y ∷ l) (overAt-set k x xs d (le-of-suc-le-suc h))
 
--- what is laid behind xs is laid with it
-pub overAt-append : (xs ys d : List ℕ) → overAt (length xs) ys (over xs d) ≡ over (xs ++ ys) d
+-- what is laid right behind xs is laid with it
+pub overAt-append : (k : ℕ) (xs ys d : List ℕ) → overAt (k + length xs) ys (overAt k xs d) ≡ overAt k (xs ++ ys) d
 unfolding overAt over
-overAt-append [] ys d = refl
-overAt-append (x ∷ xs) ys [] = refl
-overAt-append (x ∷ xs) ys (y ∷ d) = ap (λ (l : List ℕ). x ∷ l) (overAt-append xs ys d)
+overAt-append zero [] ys d = refl
+overAt-append zero (x ∷ xs) ys [] = rw (add-suc 0 (length xs)) refl
+overAt-append zero (x ∷ xs) ys (y ∷ d) = rw (add-suc 0 (length xs)) (ap (λ (l : List ℕ). x ∷ l) (overAt-append zero xs ys d))
+overAt-append (suc k) xs ys [] = rw (suc-add k (length xs)) refl
+overAt-append (suc k) xs ys (y ∷ d) = rw (suc-add k (length xs)) (ap (λ (l : List ℕ). y ∷ l) (overAt-append k xs ys d))
 
 pub overAt-zero : (xs d : List ℕ) → overAt 0 xs d ≡ over xs d
 unfolding overAt

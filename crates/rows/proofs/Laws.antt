@@ -7,7 +7,7 @@ use mathlib.Core.Logic.{_⊎_, inl, inr, ⊎-elim, _↔_}
 use mathlib.Core.Option.{Option, some, none}
 use Prim.Native.Nat.{ℕ, _≤_, _<_}
 use native.Mathlib.Omega.{arith}
-use borrow.Author.Tests.{ltb-true, ltb-false, leb-true, leb-false, eqb-true, eqb-false, not-true, not-false}
+use borrow.Author.Tests.{ltb-true, ltb-false, leb-true, leb-false, eqb-true, eqb-false, not-true, not-false, eq-eqb, ne-eqb, lt-ltb, le-ltb, le-leb, lt-leb}
 use lib.Dec.{ltb, leb, eqb}
 use Rattle.rows.specs.Rows.{Row, First, NoRow, Ranked, Test, firstOf}
 
@@ -95,3 +95,7 @@ done-exactly {F} rs o p = (there o p, back o p)
     back : (o : Option F) → Ranked rs o → NoRow rs → o ≡ none
     back none p q = refl
     back (some g) p q = absurd (first-some rs g p q)
+
+-- ---- what a test tells, from the fact: for the `search` at a function's returns
+
+pub ruleset tests = (eq-eqb, ne-eqb, lt-ltb, le-ltb, le-leb, lt-leb)

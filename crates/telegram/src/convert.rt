@@ -1,0 +1,119 @@
+// Substitution both ways: a 10, 13 or 94 of a message travels as 94 and the byte plus 64.
+ghost use Rattle.telegram.specs.Frame.{Measures, Restores, Substitutes, isSpecial, opens, substitute};
+ghost use Rattle.telegram.specs.Frame.{restore as restoreOf};
+ghost use Rattle.lent.specs.Lent.{overAt};
+ghost use mathlib.Core.Path.{_≡_};
+ghost use Prim.Native.Nat.{_-_};
+ghost use lib.ListN.{length};
+
+pub const START: u8 = 13;
+
+pub const END: u8 = 10;
+
+pub const SUBSTITUTION: u8 = 94;
+
+// How long a message is once it is substituted. Its telegram has the start and the end byte more.
+pub fn substituted_length(message: &[u8]) -> usize
+    ensures { λ r. ⌜ Measures (now (message .entry)) r ⌝ }
+{
+    let mut n: usize = 0;
+    let mut i = 0;
+    while i < message.len() {
+        n += byte_length(message[i]);
+        i += 1;
+    }
+    n
+}
+
+// Lays the message, substituted, over the room's places from `at` on, as much of it as there is
+// room for. Every other byte of the room stays.
+pub fn substitute_at(message: &[u8], room: &mut [u8], at: usize)
+    ensures { λ _. ⌜ Substitutes (now (message .entry)) at (now (room .entry)) (now (room .exit)) ⌝ }
+{
+    let mut to = at;
+    let mut i = 0;
+    while i < message.len() {
+        if room.len() <= to {
+            return;
+        }
+        to += substitute_one(message[i], room, to);
+        i += 1;
+    }
+}
+
+// Turns the substitutions among these bytes back, into the room's first places, as much as there
+// is room for. Answers how many bytes that makes, with room or without.
+pub fn restore(bytes: &[u8], room: &mut [u8]) -> usize
+    ensures { λ r. ⌜ Restores (now (bytes .entry)) (now (room .entry)) r (now (room .exit)) ⌝ }
+{
+    let mut after = false;
+    let mut n = 0;
+    let mut i = 0;
+    while i < bytes.len() {
+        n += restore_one(after, bytes[i], room, n);
+        after = opens_pair(after, bytes[i]);
+        i += 1;
+    }
+    n
+}
+
+fn byte_length(byte: u8) -> usize
+    ensures { λ r. ⌜ r ≡ length (substitute byte) ⌝ }
+{
+    if special(byte) { 2 } else { 1 }
+}
+
+// Lays one byte of a message over the room at a place, substituted where it must be, and answers
+// how many bytes that takes.
+fn substitute_one(byte: u8, room: &mut [u8], at: usize) -> usize
+    ensures { λ r. ⌜ (r ≡ length (substitute byte)) × (now (room .exit) ≡ overAt at (substitute byte) (now (room .entry))) ⌝ }
+{
+    if special(byte) {
+        lent::lay_at(&[SUBSTITUTION, byte + 64], room, at);
+        2
+    } else {
+        lent::lay_at(&[byte], room, at);
+        1
+    }
+}
+
+// Lays what one byte is turned back to, which may be nothing, and answers how many bytes that is.
+// `after` says that a 94 came last.
+fn restore_one(after: bool, byte: u8, room: &mut [u8], at: usize) -> usize
+    ensures { λ r. ⌜ (r ≡ length (restoreOf after byte)) × (now (room .exit) ≡ overAt at (restoreOf after byte) (now (room .entry))) ⌝ }
+{
+    if after {
+        lent::lay_at(&[less_64(byte)], room, at);
+        return 1;
+    }
+    if byte == SUBSTITUTION {
+        return 0;
+    }
+    lent::lay_at(&[byte], room, at);
+    1
+}
+
+fn opens_pair(after: bool, byte: u8) -> bool
+    ensures { λ r. ⌜ r ≡ opens after byte ⌝ }
+{
+    if after { false } else { byte == SUBSTITUTION }
+}
+
+// A byte under 64 is no substitute; it counts as 64.
+fn less_64(byte: u8) -> u8
+    ensures { λ r. ⌜ r ≡ byte - 64 ⌝ }
+{
+    if byte < 64 { 0 } else { byte - 64 }
+}
+
+fn special(byte: u8) -> bool
+    ensures { λ r. ⌜ r ≡ isSpecial byte ⌝ }
+{
+    if byte == END {
+        return true;
+    }
+    if byte == START {
+        return true;
+    }
+    byte == SUBSTITUTION
+}
