@@ -31,7 +31,7 @@ pub restored-next : (after : Bool) (xs : List ℕ) (i : ℕ) → i < length xs
 unfolding restored
 restored-next after xs i h = ap (restored after) (drop-next xs i h)
 
-length-substitute : (b : ℕ) → length (substitute b) ≤ 2
+pub length-substitute : (b : ℕ) → length (substitute b) ≤ 2
 length-substitute b = go (isSpecial b)
   where
     go : (t : Bool) → length (cond t (94 ∷ (b + 64) ∷ []) (b ∷ [])) ≤ 2

@@ -145,4 +145,4 @@ unfolding dataOf
 data-part message d last n e laid lo h =
     let size : 4 + n - 4 ≡ length message - 6 = omega arith in
     rw (size, laid, over-is message d h, drop-append-le 4 message (drop (length message) d) (omega arith))
-      (take-append-le (length message - 6) (drop 4 message) (drop (length message) d) (omega (arith, length-drop 4 message)))
+    (take-append-le (length message - 6) (drop 4 message) (drop (length message) d) (omega (arith, length-drop 4 message)))

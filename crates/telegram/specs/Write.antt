@@ -61,6 +61,10 @@ writeRows destination source sort register bytes room =
 
 -- ---- how they are tested, and what is answered
 
+-- 6 of a message
+unfoldable pub roomRefusal : List ℕ → ℕ → Option Fault
+roomRefusal message room = firstOf (test (ltb room (length (framed message))) NoRoom ∷ [])
+
 unfoldable pub writeRefusal : ℕ → ℕ → ℕ → ℕ → List ℕ → ℕ → Option Fault
 writeRefusal destination source sort register bytes room =
     firstOf (test (ltb 240 (length bytes)) LongMessage
@@ -72,6 +76,12 @@ writeRefusal destination source sort register bytes room =
 abbrev pub writeAnswer : Option Fault → ℕ → Writing
 writeAnswer (some f) n = Refused f
 writeAnswer none n = Written n
+
+-- a message is sent: what is answered, and what the room holds then
+abbrev pub Sends : List ℕ → List ℕ → Writing → List ℕ → Type 0
+Sends message room r room′ =
+    (r ≡ writeAnswer (roomRefusal message (length room)) (length (framed message)))
+    × (room′ ≡ roomAfter (roomRefusal message (length room)) (framed message) room)
 
 -- the contract of `write`
 abbrev pub Writes : ℕ → ℕ → ℕ → ℕ → List ℕ → List ℕ → Writing → List ℕ → Type 0

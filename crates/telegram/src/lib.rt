@@ -2,12 +2,14 @@
 // the bytes that mean start, end or substitution converted. specs/ says what each call answers.
 mod convert;
 mod reader;
+mod writer;
 
 pub use convert::restore;
 pub use convert::substitute_at;
 pub use convert::substituted_length;
 pub use reader::examine;
 pub use reader::read;
+pub use writer::write;
 ghost use Rattle.telegram.specs.Read.{Numbers};
 
 // Why a frame could not be read, or a telegram not be written.
