@@ -111,8 +111,8 @@ module _ (xs : List ℕ) (h l : ℕ) where
           leaves-one (is-remainder (xs ++ h ∷ l ∷ [])) (rw zeros-stay at (leaves-timesXs 16 (rw nothing at whole-leaves)))
 
 -- a message followed by its remainder, high byte first
-pub sealed : (xs : List ℕ) → remainderOf (xs ++ remainderOf xs / 256 ∷ remainderOf xs % 256 ∷ []) ≡ 0
-sealed xs =
+pub sealed-right : (xs : List ℕ) → remainderOf (xs ++ remainderOf xs / 256 ∷ remainderOf xs % 256 ∷ []) ≡ 0
+sealed-right xs =
     let u : remainderOf xs < 2 ^ 16 = remainder-under xs in
     let e : remainderOf xs ≡ remainderOf xs / 256 % 256 * 256 + remainderOf xs % 256 % 256 = omega arith in
     whole xs (remainderOf xs / 256) (remainderOf xs % 256) .1 e

@@ -2,14 +2,14 @@
 -- Assumes nothing.
 use mathlib.Core.Path.{_≡_, refl, sym, ap, _∙_, subst}
 use mathlib.Core.Bool.{Bool, true, false, cond, not, _||_, true≢false}
-use mathlib.Core.List.{List, [], _∷_}
+use mathlib.Core.List.{List, [], _∷_, _++_}
 use mathlib.Core.Logic.{_⊎_, inl, inr, ⊎-elim, _↔_}
 use mathlib.Core.Option.{Option, some, none}
 use Prim.Native.Nat.{ℕ, _≤_, _<_}
 use native.Mathlib.Omega.{arith}
 use borrow.Author.Tests.{ltb-true, ltb-false, leb-true, leb-false, eqb-true, eqb-false, not-true, not-false, eq-eqb, ne-eqb, lt-ltb, le-ltb, le-leb, lt-leb}
 use lib.Dec.{ltb, leb, eqb}
-use Rattle.rows.specs.Rows.{Row, First, NoRow, Ranked, Test, firstOf}
+use Rattle.rows.specs.Rows.{Row, First, NoRow, Ranked, Test, firstOf, orLater}
 
 -- ---- a test decides a condition
 
@@ -36,6 +36,13 @@ decides-or {a} {b} p q = go a b p q
     go true b p q = record { so = λ e. inl (p .so refl); not-so = λ e. absurd (true≢false e) }
     go false b p q = record { so = λ e. inr (q .so e); not-so = λ e s. ⊎-elim (p .not-so refl) (q .not-so e) s }
 
+pub told-false : {b : Bool} {P : Type 0} → Decides b P → (P → ⊥) → b ≡ false
+told-false {b} {P} d n = go b d
+  where
+    go : (t : Bool) → Decides t P → t ≡ false
+    go true d = absurd (n (d .so refl))
+    go false d = refl
+
 -- the same condition in other words
 pub decides-as : {b : Bool} {P Q : Type 0} → Decides b P → (P → Q) → (Q → P) → Decides b Q
 decides-as d f g = record { so = λ e. f (d .so e); not-so = λ e q. d .not-so e (g q) }
@@ -61,6 +68,16 @@ ranked {F} (t ∷ ts) (r ∷ rs) fit = by-test (t .tells) refl (firstOf ts) (λ 
     by-test : (b : Bool) → t .tells ≡ b → (o : Option F) → ((r .holds → ⊥) → Ranked rs o) → Ranked (r ∷ rs) (cond b (some (t .gives)) o)
     by-test true e o p = inl (fit .0 .so e, fit .1 .0)
     by-test false e o p = let n : r .holds → ⊥ = fit .0 .not-so e in later o n (p n)
+
+-- the tests of two groups, one after the other
+pub first-append : {F : Type 0} (ts us : List (Test F)) (o : Option F) → firstOf us ≡ o → firstOf (ts ++ us) ≡ orLater (firstOf ts) o
+first-append [] us o e = e
+first-append {F} (t ∷ ts) us o e = go (t .tells) (first-append ts us o e)
+  where
+    go : (b : Bool) → firstOf (ts ++ us) ≡ orLater (firstOf ts) o
+        → cond b (some (t .gives)) (firstOf (ts ++ us)) ≡ orLater (cond b (some (t .gives)) (firstOf ts)) o
+    go true ih = refl
+    go false ih = ih
 
 -- ---- both directions: a refusal is given exactly when its row is the first that holds, and none exactly when no row does
 

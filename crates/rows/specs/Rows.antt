@@ -44,3 +44,8 @@ test b f = record { tells = b; gives = f }
 abbrev pub firstOf : {F : Type 0} → List (Test F) → Option F
 firstOf [] = none
 firstOf (t ∷ ts) = cond (t .tells) (some (t .gives)) (firstOf ts)
+
+-- the first refusal of two groups of tests
+abbrev pub orLater : {F : Type 0} → Option F → Option F → Option F
+orLater (some f) later = some f
+orLater none later = later

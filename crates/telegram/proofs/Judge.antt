@@ -4,24 +4,26 @@ use mathlib.Core.Path.{_≡_, refl, ap}
 use mathlib.Core.Bool.{Bool, true, false, cond, not, _||_, true≢false}
 use mathlib.Core.List.{List}
 use mathlib.Core.Option.{Option, some, none}
+use mathlib.Core.Logic.{_≢_}
 use Prim.Native.Nat.{ℕ, _-_, _≤_, _+_}
 use native.Mathlib.Omega.{arith}
 use native.Mathlib.Nat.{sub-zero}
-use borrow.Author.Tests.{ltb-false}
+use borrow.Author.Tests.{ltb-false, eqb-true, not-false, le-ltb, eq-eqb, ne-eqb}
 use lib.Dec.{eqb, ltb}
 use lib.ListN.{length, take, drop, length-drop}
 use lib.Seq.{take-append-le, drop-append-le}
-use Rattle.rows.specs.Rows.{firstOf}
+use Rattle.rows.specs.Rows.{firstOf, orLater}
 use Rattle.lent.proofs.Laws.{over-is, take-over}
 use Rattle.lent.specs.Lent.{over}
+use Rattle.remainder.specs.Remainder.{remainderOf}
 use Rattle.telegram.specs.declared.Fault.{Fault}
-use Rattle.telegram.specs.declared.Fault.the-variants.{NotFramed, ShortMessage, LongMessage, NoRoom}
+use Rattle.telegram.specs.declared.Fault.the-variants.{NotFramed, ShortMessage, LongMessage, NoRoom, CheckFault}
 use Rattle.telegram.specs.declared.Judged.the-variants.{Sound, Unsound}
 use Rattle.telegram.specs.declared.Fields.{Fields}
 use Rattle.telegram.specs.declared.Reading.{Reading}
 use Rattle.telegram.specs.declared.Reading.the-variants.{Telegram, Refused}
 use Rattle.telegram.specs.Frame.{between, restored, messageOf}
-use Rattle.telegram.specs.Read.{byte, notFramed, frameTests, lengthTests, messageTests, judged, readRefusal, fieldsOf, readAnswer, readFrame, messageRefusal, orElse, dataOf}
+use Rattle.telegram.specs.Read.{byte, notFramed, frameTests, lengthTests, messageTests, judged, readRefusal, fieldsOf, readAnswer, readFrame, messageRefusal, dataOf}
 
 -- ---- one group
 
@@ -33,7 +35,7 @@ pub judged-unsound : (o : Option Fault) (f : Fault) → Unsound f ≡ judged o �
 judged-unsound none f e = cc
 judged-unsound (some g) f e = cc
 
-first-false : (t : Bool) (f : Fault) (o : Option Fault) → cond t (some f) o ≡ none → (t ≡ false) × (o ≡ none)
+pub first-false : (t : Bool) (f : Fault) (o : Option Fault) → cond t (some f) o ≡ none → (t ≡ false) × (o ≡ none)
 first-false true f o e = absurd (let z : _≡_ {A = ℕ} 0 1 = cc in omega arith)
 first-false false f o e = (refl, e)
 
@@ -92,7 +94,7 @@ sound-length message part room n r e p u g =
 
 -- ---- and back: what the answer tells
 
-or-none : (o later : Option Fault) → orElse o later ≡ none → (o ≡ none) × (later ≡ none)
+or-none : (o later : Option Fault) → orLater o later ≡ none → (o ≡ none) × (later ≡ none)
 or-none none later e = (refl, e)
 or-none (some f) later e = absurd (never-both (some f) f refl e)
 
@@ -146,3 +148,20 @@ data-part message d last n e laid lo h =
     let size : 4 + n - 4 ≡ length message - 6 = omega arith in
     rw (size, laid, over-is message d h, drop-append-le 4 message (drop (length message) d) (omega arith))
     (take-append-le (length message - 6) (drop 4 message) (drop (length message) d) (omega (arith, length-drop 4 message)))
+
+-- ---- what passes a group
+
+pub sized-passes : (n room : ℕ) → 6 ≤ n → n ≤ 246 → n - 6 ≤ room → firstOf (lengthTests n room) ≡ none
+sized-passes n room lo hi h = simp (le-ltb n 6 lo, le-ltb 246 n hi, le-ltb room (n - 6) h)
+
+pub message-passes : (m : List ℕ) → remainderOf m ≡ 0 → byte m 0 ≢ 0 → byte m 1 ≢ 0 → byte m 2 ≤ 9 → firstOf (messageTests m) ≡ none
+message-passes m r d s t = simp (eq-eqb (remainderOf m) 0 r, ne-eqb (byte m 0) 0 d, ne-eqb (byte m 1) 0 s, le-ltb 9 (byte m 2) t)
+
+pub message-wrong : (m : List ℕ) (room : ℕ) → 6 ≤ length m → length m ≤ 246 → length m - 6 ≤ room → remainderOf m ≢ 0 → messageRefusal m room ≡ some CheckFault
+unfolding messageRefusal
+message-wrong m room lo hi h r = rw (sized-passes (length m) room lo hi h) (simp (ne-eqb (remainderOf m) 0 r))
+
+pub accepted-remainder : (frame : List ℕ) (room : ℕ) → readRefusal frame room ≡ none → remainderOf (messageOf frame) ≡ 0
+accepted-remainder frame room e =
+    let m = first-false (not (eqb (remainderOf (messageOf frame)) 0)) CheckFault _ (accepted-groups frame room e .2) in
+    eqb-true _ _ (not-false _ (m .0))

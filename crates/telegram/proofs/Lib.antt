@@ -1,3 +1,6 @@
 pub mod Frame
 pub mod Judge
 pub mod Send
+pub mod Sound
+pub mod Ranking
+pub mod Laws

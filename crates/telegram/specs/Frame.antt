@@ -1,12 +1,17 @@
 -- A message and its frame: substitution both ways. Start is 13, end is 10, substitution is 94.
 -- Assumes nothing.
 use mathlib.Core.Path.{_≡_}
-use mathlib.Core.Bool.{Bool, true, false, cond, not, _||_}
+use mathlib.Core.Bool.{Bool, true, false, cond, _||_}
 use mathlib.Core.List.{List, [], _∷_, _++_}
 use Prim.Native.Nat.{ℕ, _+_, _-_, _<_}
 use lib.Dec.{eqb}
 use lib.ListN.{length, take, drop}
 use Rattle.lent.specs.Lent.{over, overAt}
+
+-- each of these numbers is a byte, as those of a slice of bytes are
+abbrev pub AllBytes : List ℕ → Type 0
+AllBytes [] = Unit {0}
+AllBytes (b ∷ rest) = (b < 256) × AllBytes rest
 
 -- "every 10, 13 and 94 in the message"
 abbrev pub isSpecial : ℕ → Bool

@@ -10,7 +10,7 @@ use lib.Dec.{eqb, ltb}
 use lib.ListN.{length, getD, take, drop}
 use Rattle.lent.specs.Lent.{over}
 use Rattle.remainder.specs.Remainder.{remainderOf}
-use Rattle.rows.specs.Rows.{Row, row, Test, test, firstOf}
+use Rattle.rows.specs.Rows.{Row, row, Test, test, firstOf, orLater}
 use Rattle.telegram.specs.Frame.{framed, between, messageOf}
 use Rattle.telegram.specs.declared.Fault.{Fault}
 use Rattle.telegram.specs.declared.Fault.the-variants.{NotFramed, StrayEnd, BadSubstitution, ShortMessage, LongMessage, NoRoom, CheckFault, ZeroAddress, UnknownType}
@@ -142,18 +142,13 @@ abbrev pub judged : Option Fault → Judged
 judged (some f) = Unsound f
 judged none = Sound
 
--- the first refusal of two groups
-abbrev pub orElse : Option Fault → Option Fault → Option Fault
-orElse (some f) later = some f
-orElse none later = later
-
 -- what refuses a message that is offered with so much room, if anything does: rows 4 to 9
 unfoldable pub messageRefusal : List ℕ → ℕ → Option Fault
-messageRefusal message room = orElse (firstOf (lengthTests (length message) room)) (firstOf (messageTests message))
+messageRefusal message room = orLater (firstOf (lengthTests (length message) room)) (firstOf (messageTests message))
 
 -- what refuses a frame: rows 1 to 9
 unfoldable pub readRefusal : List ℕ → ℕ → Option Fault
-readRefusal frame room = orElse (firstOf (frameTests frame)) (messageRefusal (messageOf frame) room)
+readRefusal frame room = orLater (firstOf (frameTests frame)) (messageRefusal (messageOf frame) room)
 
 -- ---- what is answered
 

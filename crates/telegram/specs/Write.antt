@@ -9,7 +9,7 @@ use Prim.Native.Nat.{ℕ, _/_, _%_, _<_}
 use lib.Dec.{eqb, ltb}
 use lib.ListN.{length}
 use Rattle.remainder.specs.Remainder.{remainderOf}
-use Rattle.rows.specs.Rows.{Row, row, test, firstOf}
+use Rattle.rows.specs.Rows.{Row, row, Test, test, firstOf}
 use Rattle.telegram.specs.Frame.{framed}
 use Rattle.telegram.specs.Read.{roomAfter}
 use Rattle.telegram.specs.declared.Fault.{Fault}
@@ -65,13 +65,16 @@ writeRows destination source sort register bytes room =
 unfoldable pub roomRefusal : List ℕ → ℕ → Option Fault
 roomRefusal message room = firstOf (test (ltb room (length (framed message))) NoRoom ∷ [])
 
-unfoldable pub writeRefusal : ℕ → ℕ → ℕ → ℕ → List ℕ → ℕ → Option Fault
-writeRefusal destination source sort register bytes room =
-    firstOf (test (ltb 240 (length bytes)) LongMessage
+abbrev pub writeTests : ℕ → ℕ → ℕ → ℕ → List ℕ → ℕ → List (Test Fault)
+writeTests destination source sort register bytes room =
+    test (ltb 240 (length bytes)) LongMessage
     ∷ test (eqb destination 0 || eqb source 0) ZeroAddress
     ∷ test (ltb 9 sort) UnknownType
     ∷ test (ltb room (length (telegramFor destination source sort register bytes))) NoRoom
-    ∷ [])
+    ∷ []
+
+unfoldable pub writeRefusal : ℕ → ℕ → ℕ → ℕ → List ℕ → ℕ → Option Fault
+writeRefusal destination source sort register bytes room = firstOf (writeTests destination source sort register bytes room)
 
 abbrev pub writeAnswer : Option Fault → ℕ → Writing
 writeAnswer (some f) n = Refused f
