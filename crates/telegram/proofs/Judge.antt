@@ -16,13 +16,13 @@ use Rattle.rows.specs.Rows.{firstOf, orLater}
 use Rattle.lent.proofs.Laws.{over-is, take-over}
 use Rattle.lent.specs.Lent.{over}
 use Rattle.remainder.specs.Remainder.{remainderOf}
+use Rattle.frame.specs.Frame.{between, restored, messageOf}
 use Rattle.telegram.specs.declared.Fault.{Fault}
 use Rattle.telegram.specs.declared.Fault.the-variants.{NotFramed, ShortMessage, LongMessage, NoRoom, CheckFault}
 use Rattle.telegram.specs.declared.Judged.the-variants.{Sound, Unsound}
 use Rattle.telegram.specs.declared.Fields.{Fields}
 use Rattle.telegram.specs.declared.Reading.{Reading}
 use Rattle.telegram.specs.declared.Reading.the-variants.{Telegram, Refused}
-use Rattle.telegram.specs.Frame.{between, restored, messageOf}
 use Rattle.telegram.specs.Read.{byte, notFramed, frameTests, lengthTests, messageTests, judged, readRefusal, fieldsOf, readAnswer, readFrame, messageRefusal, dataOf}
 
 -- ---- one group

@@ -16,6 +16,7 @@ use Rattle.lent.proofs.Laws.{take-over}
 use Rattle.remainder.proofs.Laws.{sealed-right, whole, burst-seen, altered-seen, nearby-burst}
 use Rattle.rows.proofs.Laws.{done-exactly}
 use Rattle.remainder.specs.Remainder.{remainderOf, combined, AlteredNearby}
+use Rattle.frame.specs.Frame.{framed, messageOf, between, AllBytes, restore, opens, restored}
 use Rattle.telegram.specs.declared.Fields.{Fields}
 use Rattle.telegram.specs.declared.Fault.{Fault}
 use Rattle.telegram.specs.declared.Fault.the-variants.{NotFramed, StrayEnd}
@@ -24,7 +25,6 @@ use Rattle.telegram.proofs.Send.{length-messageFor}
 use Rattle.telegram.specs.Read.{messageRefusal, fieldsOf, dataOf, readRefusal, Reads, readFrame, byte, Between, HasStrayEnd, notFramed, hasStrayEnd, Judges, Numbers}
 use Rattle.telegram.proofs.Judge.{sized-passes, message-passes, first-false, reading-telegram, accepted-groups, refused-reading, accepted-sized, message-wrong, accepted-remainder}
 use Rattle.telegram.proofs.Sound.{messageOf-framed, framed-sound, sound-framed}
-use Rattle.telegram.specs.Frame.{framed, messageOf, between, AllBytes, restore, opens, restored, Measures, Substitutes, Restores}
 use Rattle.telegram.specs.declared.Reading.{Reading}
 use Rattle.telegram.specs.declared.Reading.the-variants.{Telegram}
 use Rattle.telegram.specs.declared.Writing.the-variants.{Written}
@@ -231,15 +231,6 @@ judges-once frame room p q = p ∙ sym q
 
 pub writes-once : (d s t r : ℕ) (bytes room : List ℕ) {a b : Writing} {x y : List ℕ} → Writes d s t r bytes room a x → Writes d s t r bytes room b y → (a ≡ b) × (x ≡ y)
 writes-once d s t r bytes room p q = (p .0 ∙ sym (q .0), p .1 ∙ sym (q .1))
-
-pub measures-once : (m : List ℕ) {a b : ℕ} → Measures m a → Measures m b → a ≡ b
-measures-once m p q = p ∙ sym q
-
-pub substitutes-once : (m : List ℕ) (at : ℕ) (room : List ℕ) {x y : List ℕ} → Substitutes m at room x → Substitutes m at room y → x ≡ y
-substitutes-once m at room p q = p ∙ sym q
-
-pub restores-once : (xs room : List ℕ) {a b : ℕ} {x y : List ℕ} → Restores xs room a x → Restores xs room b y → (a ≡ b) × (x ≡ y)
-restores-once xs room p q = (p .0 ∙ sym (q .0), p .1 ∙ sym (q .1))
 
 pub numbers-once : (f : Fault) {a b : ℕ} → Numbers f a → Numbers f b → a ≡ b
 numbers-once f p q = p ∙ sym q

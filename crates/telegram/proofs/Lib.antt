@@ -1,4 +1,3 @@
-pub mod Frame
 pub mod Judge
 pub mod Send
 pub mod Sound

@@ -11,8 +11,8 @@ use lib.ListN.{length, length-append, List·getD-append}
 use Rattle.rows.proofs.Laws.{Decides, decides-lt, decides-eq, decides-not, decides-or, told-false, decides-as, Fit, ranked, first-append}
 use Rattle.remainder.specs.Remainder.{remainderOf}
 use Rattle.rows.specs.Rows.{row, Ranked, firstOf}
+use Rattle.frame.specs.Frame.{between, framed, messageOf}
 use Rattle.telegram.proofs.Sound.{frame-parts, Ends, ends-told, stray-found, stray-at, messageOf-framed, sound-framed, Other, bad-found, bad-at}
-use Rattle.telegram.specs.Frame.{between, framed, messageOf}
 use Rattle.telegram.specs.Read.{byte, Between, IsNotFramed, HasStrayEnd, notFramed, hasStrayEnd, HasBadSubstitution, OfMessage, IsShort, IsLong, OverRoom, IsWrong, HasZeroAddress, HasUnknownType, readRows, hasBadSubstitution, frameTests, lengthTests, messageTests, messageRefusal, readRefusal}
 use Rattle.telegram.specs.Write.{telegramFor, IsTooMuch, IsZeroAddress, IsUnknownType, IsOverRoom, writeRows, writeRefusal, writeTests}
 use Rattle.telegram.specs.declared.Fault.the-variants.{ShortMessage, LongMessage, NoRoom, CheckFault, ZeroAddress, UnknownType}

@@ -10,11 +10,11 @@ use lib.ListN.{length, take, length-append}
 use Rattle.lent.proofs.Laws.{overAt-append, overAt-zero}
 use Rattle.lent.specs.Lent.{over, overAt}
 use Rattle.remainder.specs.Remainder.{remainderOf}
+use Rattle.frame.proofs.Laws.{length-substitute, length-framed}
+use Rattle.frame.specs.Frame.{substitute, substituted, framed}
 use Rattle.telegram.specs.declared.Fault.the-variants.{NoRoom}
 use Rattle.telegram.specs.Write.{sealed, unsealed, messageFor, roomRefusal, writeRefusal}
-use Rattle.telegram.proofs.Frame.{length-substitute, length-framed}
 use Rattle.telegram.proofs.Judge.{whole-part}
-use Rattle.telegram.specs.Frame.{substitute, substituted, framed}
 
 -- ---- the message, laid piece by piece
 

@@ -15,9 +15,9 @@ use lib.ListN.{length, length-append}
 use lib.Seq.{take-at, getD-at, take-suc, take-all}
 use Rattle.rows.specs.Rows.{firstOf}
 use Rattle.rows.proofs.Laws.{Decides, decides-eq, decides-or, told-false}
+use Rattle.frame.proofs.Laws.{decides-special}
+use Rattle.frame.specs.Frame.{isSpecial, substitute, substituted, framed, between, restored, messageOf}
 use Rattle.telegram.specs.declared.Fault.the-variants.{NotFramed, StrayEnd, BadSubstitution}
-use Rattle.telegram.proofs.Frame.{decides-special}
-use Rattle.telegram.specs.Frame.{isSpecial, substitute, substituted, framed, between, restored, messageOf}
 use Rattle.telegram.specs.Read.{byte, notFramed, hasStrayEnd, isSubstitute, hasBadSubstitution, frameTests, isBad}
 use Rattle.telegram.proofs.Judge.{first-false}
 

@@ -11,7 +11,7 @@ use lib.ListN.{length, getD, take, drop}
 use Rattle.lent.specs.Lent.{over}
 use Rattle.remainder.specs.Remainder.{remainderOf}
 use Rattle.rows.specs.Rows.{Row, row, Test, test, firstOf, orLater}
-use Rattle.telegram.specs.Frame.{framed, between, messageOf}
+use Rattle.frame.specs.Frame.{framed, between, messageOf}
 use Rattle.telegram.specs.declared.Fault.{Fault}
 use Rattle.telegram.specs.declared.Fault.the-variants.{NotFramed, StrayEnd, BadSubstitution, ShortMessage, LongMessage, NoRoom, CheckFault, ZeroAddress, UnknownType}
 use Rattle.telegram.specs.declared.Judged.{Judged}

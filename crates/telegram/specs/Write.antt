@@ -10,7 +10,7 @@ use lib.Dec.{eqb, ltb}
 use lib.ListN.{length}
 use Rattle.remainder.specs.Remainder.{remainderOf}
 use Rattle.rows.specs.Rows.{Row, row, Test, test, firstOf}
-use Rattle.telegram.specs.Frame.{framed}
+use Rattle.frame.specs.Frame.{framed}
 use Rattle.telegram.specs.Read.{roomAfter}
 use Rattle.telegram.specs.declared.Fault.{Fault}
 use Rattle.telegram.specs.declared.Fault.the-variants.{LongMessage, NoRoom, ZeroAddress, UnknownType}

@@ -1,12 +1,8 @@
 // Telegrams read and written. A telegram is a message between a start byte and an end byte, with
 // the bytes that mean start, end or substitution converted. specs/ says what each call answers.
-mod convert;
 mod reader;
 mod writer;
 
-pub use convert::restore;
-pub use convert::substitute_at;
-pub use convert::substituted_length;
 pub use reader::examine;
 pub use reader::read;
 pub use writer::write;

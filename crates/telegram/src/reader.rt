@@ -3,12 +3,11 @@ use crate::Fault;
 use crate::Fields;
 use crate::Judged;
 use crate::Reading;
-use crate::convert;
-use crate::convert::END;
-use crate::convert::START;
-use crate::convert::SUBSTITUTION;
+use frame::END;
+use frame::START;
+use frame::SUBSTITUTION;
 ghost use Rattle.telegram.specs.Read.{Reads, Judges, byte, readFrame, readRefusal, readAnswer, fieldsOf, judged, frameTests, lengthTests, messageTests, notFramed, hasStrayEnd, hasBadSubstitution, isBad, messageRefusal};
-ghost use Rattle.telegram.specs.Frame.{between, messageOf, restored};
+ghost use Rattle.frame.specs.Frame.{between, messageOf, restored};
 ghost use Rattle.lent.specs.Lent.{over};
 ghost use Rattle.rows.specs.Rows.{firstOf};
 ghost use mathlib.Core.Path.{_≡_};
@@ -59,7 +58,7 @@ fn judge_between(bytes: &[u8], room: usize, message: &mut [u8]) -> Reading
     requires { ⌜ length (now message) ≡ 246 ⌝ }
     ensures { λ r. ⌜ (r ≡ readAnswer (messageRefusal (restored false (now (bytes .entry))) room) (fieldsOf (restored false (now (bytes .entry))))) × (now (message .exit) ≡ over (restored false (now (bytes .entry))) (now (message .entry))) ⌝ }
 {
-    let n = convert::restore(bytes, message);
+    let n = frame::restore(bytes, message);
     match sized(n, room) {
         Judged::Unsound(fault) => Reading::Refused(fault),
         Judged::Sound => judge_message(&message[0..n]),

@@ -1,9 +1,8 @@
 // The frame writer.
 use crate::Fault;
 use crate::Writing;
-use crate::convert;
-use crate::convert::END;
-use crate::convert::START;
+use frame::END;
+use frame::START;
 ghost use Rattle.telegram.specs.Write.{Writes, Sends, messageFor};
 ghost use Rattle.lent.specs.Lent.{over};
 ghost use mathlib.Core.Path.{_≡_};
@@ -58,12 +57,12 @@ fn send(message: &[u8], room: &mut [u8]) -> Writing
     requires { ⌜ length (now message) ≤ 246 ⌝ }
     ensures { λ r. ⌜ Sends (now (message .entry)) (now (room .entry)) r (now (room .exit)) ⌝ }
 {
-    let n = convert::substituted_length(message) + 2;
+    let n = frame::substituted_length(message) + 2;
     if room.len() < n {
         return Writing::Refused(Fault::NoRoom);
     }
     lent::lay_at(&[START], room, 0);
-    convert::substitute_at(message, room, 1);
+    frame::substitute_at(message, room, 1);
     lent::lay_at(&[END], room, n - 1);
     Writing::Written(n)
 }

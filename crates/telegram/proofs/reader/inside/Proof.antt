@@ -4,7 +4,7 @@ use native.Mathlib.Omega.{arith}
 use borrow.Author.Needs.{needs}
 use lib.ListN.{length}
 use Rattle.telegram.proofs.reader.inside.Statement.{statement}
-use Rattle.telegram.specs.Frame.{between}
+use Rattle.frame.specs.Frame.{between}
 use Rattle.telegram.proofs.reader.inside.Tie as tie
 
 sub-end : tie.Need-sub-end

@@ -2,7 +2,7 @@ use mathlib.Core.Path.{refl}
 use native.Mathlib.Omega.{arith}
 use borrow.Author.Needs.{needs}
 use Rattle.telegram.proofs.writer.send.Statement.{statement}
-use Rattle.telegram.proofs.Frame.{length-framed}
+use Rattle.frame.proofs.Laws.{length-framed}
 use Rattle.telegram.proofs.Send.{substituted-long, sent, no-room, with-room}
 use Rattle.telegram.proofs.writer.send.Tie as tie
 

@@ -1,6 +1,7 @@
-// Substitution both ways: a 10, 13 or 94 of a message travels as 94 and the byte plus 64.
-ghost use Rattle.telegram.specs.Frame.{Measures, Restores, Substitutes, isSpecial, opens, substitute};
-ghost use Rattle.telegram.specs.Frame.{restore as restoreOf};
+// What a frame is made of: the start and end bytes, and substitution both ways. A 10, 13 or 94 of a
+// message travels as 94 and the byte plus 64.
+ghost use Rattle.frame.specs.Frame.{Measures, Restores, Substitutes, isSpecial, opens, substitute};
+ghost use Rattle.frame.specs.Frame.{restore as restoreOf};
 ghost use Rattle.lent.specs.Lent.{overAt};
 ghost use mathlib.Core.Path.{_≡_};
 ghost use Prim.Native.Nat.{_-_};

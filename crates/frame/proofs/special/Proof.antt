@@ -1,6 +1,6 @@
 use Rattle.rows.proofs.Laws.{tests}
-use Rattle.telegram.proofs.convert.special.Statement.{statement}
-use Rattle.telegram.proofs.convert.special.Tie as tie
+use Rattle.frame.proofs.special.Statement.{statement}
+use Rattle.frame.proofs.special.Tie as tie
 
 returns : tie.Need-returns
 returns c = search tests

@@ -2,9 +2,9 @@ use mathlib.Core.Path.{refl, sym, _∙_}
 use Prim.Native.Nat.{_≤_}
 use native.Mathlib.Omega.{arith}
 use borrow.Author.Needs.{needs}
-use Rattle.telegram.proofs.Frame.{special-under}
-use Rattle.telegram.proofs.convert.substitute_one.Statement.{statement}
-use Rattle.telegram.proofs.convert.substitute_one.Tie as tie
+use Rattle.frame.proofs.Laws.{special-under}
+use Rattle.frame.proofs.substitute_one.Statement.{statement}
+use Rattle.frame.proofs.substitute_one.Tie as tie
 
 special-requires : tie.Need-special-requires
 special-requires c κs = search needs

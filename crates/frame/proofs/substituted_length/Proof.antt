@@ -8,10 +8,10 @@ use native.Mathlib.Omega.{arith}
 use native.Mathlib.Nat.{add-zero}
 use borrow.Author.Needs.{needs}
 use lib.ListN.{length, getD, drop, length-append, drop-of-length-le}
-use Rattle.telegram.proofs.Frame.{substituted-next, taken-two}
-use Rattle.telegram.specs.Frame.{substitute, substituted}
-use Rattle.telegram.proofs.convert.substituted_length.Statement.{statement}
-use Rattle.telegram.proofs.convert.substituted_length.Tie as tie
+use Rattle.frame.proofs.Laws.{substituted-next, taken-two}
+use Rattle.frame.specs.Frame.{substitute, substituted}
+use Rattle.frame.proofs.substituted_length.Statement.{statement}
+use Rattle.frame.proofs.substituted_length.Tie as tie
 
 step : (m : List ℕ) (i n r w : ℕ) → i < length m → r ≡ length (substitute (getD m i 0)) → n + length (substituted (drop i m)) ≡ w
     → n + r + length (substituted (drop (i + 1) m)) ≡ w

@@ -10,10 +10,10 @@ use borrow.Author.Needs.{needs}
 use lib.ListN.{length, drop, getD, length-append, drop-of-length-le}
 use Rattle.lent.specs.Lent.{over, overAt}
 use Rattle.lent.proofs.Laws.{length-overAt, overAt-none, overAt-append, overAt-zero}
-use Rattle.telegram.specs.Frame.{restored, restore, opens}
-use Rattle.telegram.proofs.convert.restore.Statement.{statement}
-use Rattle.telegram.proofs.Frame.{restored-next, given-one}
-use Rattle.telegram.proofs.convert.restore.Tie as tie
+use Rattle.frame.specs.Frame.{restored, restore, opens}
+use Rattle.frame.proofs.restore.Statement.{statement}
+use Rattle.frame.proofs.Laws.{restored-next, given-one}
+use Rattle.frame.proofs.restore.Tie as tie
 
 step : (xs room w room′ : List ℕ) (after opened : Bool) (n i r : ℕ) → i < length xs → opened ≡ opens after (getD xs i 0)
     → (r ≡ length (restore after (getD xs i 0))) × (room′ ≡ overAt n (restore after (getD xs i 0)) room)

@@ -1,6 +1,6 @@
 -- The laws of substitution and of frames.
 -- Assumes nothing.
-use mathlib.Core.Path.{_≡_, ap}
+use mathlib.Core.Path.{_≡_, ap, sym, _∙_}
 use mathlib.Core.Logic.{_⊎_, ⊎-elim}
 use mathlib.Core.Bool.{Bool, true, false, cond}
 use mathlib.Core.List.{List, [], _∷_, _++_}
@@ -10,7 +10,7 @@ use lib.Dec.{eqb}
 use lib.ListN.{length, getD, drop, length-append}
 use Rattle.lent.proofs.Laws.{drop-next}
 use Rattle.rows.proofs.Laws.{Decides, decides-eq, decides-or}
-use Rattle.telegram.specs.Frame.{isSpecial, substitute, substituted, framed, restore, opens, restored}
+use Rattle.frame.specs.Frame.{isSpecial, substitute, substituted, framed, restore, opens, restored, Measures, Substitutes, Restores}
 
 -- ---- one byte
 
@@ -57,3 +57,14 @@ given-one after xs i e = rw e (length-restore after (getD xs i 0))
 pub length-framed : (m : List ℕ) → length (framed m) ≡ length (substituted m) + 2
 unfolding framed
 length-framed m = let e : length (substituted m ++ (10 ∷ [])) ≡ length (substituted m) + 1 = length-append (substituted m) (10 ∷ []) in omega arith
+
+-- ---- 01: "Show that any two outcomes allowed by it are equal."
+
+pub measures-once : (m : List ℕ) {a b : ℕ} → Measures m a → Measures m b → a ≡ b
+measures-once m p q = p ∙ sym q
+
+pub substitutes-once : (m : List ℕ) (at : ℕ) (room : List ℕ) {x y : List ℕ} → Substitutes m at room x → Substitutes m at room y → x ≡ y
+substitutes-once m at room p q = p ∙ sym q
+
+pub restores-once : (xs room : List ℕ) {a b : ℕ} {x y : List ℕ} → Restores xs room a x → Restores xs room b y → (a ≡ b) × (x ≡ y)
+restores-once xs room p q = (p .0 ∙ sym (q .0), p .1 ∙ sym (q .1))

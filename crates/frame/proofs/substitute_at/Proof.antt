@@ -9,10 +9,10 @@ use borrow.Author.Needs.{needs}
 use lib.ListN.{length, getD, drop, drop-of-length-le}
 use Rattle.lent.proofs.Laws.{overAt-append, overAt-past, length-overAt, overAt-none}
 use Rattle.lent.specs.Lent.{overAt}
-use Rattle.telegram.proofs.Frame.{substituted-next, taken-two}
-use Rattle.telegram.specs.Frame.{substitute, substituted}
-use Rattle.telegram.proofs.convert.substitute_at.Statement.{statement}
-use Rattle.telegram.proofs.convert.substitute_at.Tie as tie
+use Rattle.frame.proofs.Laws.{substituted-next, taken-two}
+use Rattle.frame.specs.Frame.{substitute, substituted}
+use Rattle.frame.proofs.substitute_at.Statement.{statement}
+use Rattle.frame.proofs.substitute_at.Tie as tie
 
 step : (m room w : List ℕ) (to i r : ℕ) (room′ : List ℕ) → i < length m → r ≡ length (substitute (getD m i 0))
     → room′ ≡ overAt to (substitute (getD m i 0)) room → overAt to (substituted (drop i m)) room ≡ w → overAt (to + r) (substituted (drop (i + 1) m)) room′ ≡ w

@@ -1,6 +1,6 @@
 use borrow.Author.Needs.{needs}
-use Rattle.telegram.proofs.convert.opens_pair.Statement.{statement}
-use Rattle.telegram.proofs.convert.opens_pair.Tie as tie
+use Rattle.frame.proofs.opens_pair.Statement.{statement}
+use Rattle.frame.proofs.opens_pair.Tie as tie
 
 returns : tie.Need-returns
 returns c = search needs

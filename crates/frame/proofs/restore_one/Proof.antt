@@ -2,8 +2,8 @@ use mathlib.Core.Path.{refl, sym}
 use borrow.Author.Tests.{eq-eqb, ne-eqb}
 use borrow.Author.Needs.{needs}
 use Rattle.lent.proofs.Laws.{overAt-none}
-use Rattle.telegram.proofs.convert.restore_one.Statement.{statement}
-use Rattle.telegram.proofs.convert.restore_one.Tie as tie
+use Rattle.frame.proofs.restore_one.Statement.{statement}
+use Rattle.frame.proofs.restore_one.Tie as tie
 
 less-64-requires : tie.Need-less-64-requires
 less-64-requires c κs = search needs

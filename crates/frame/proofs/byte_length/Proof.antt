@@ -1,6 +1,6 @@
 use borrow.Author.Needs.{needs}
-use Rattle.telegram.proofs.convert.byte_length.Statement.{statement}
-use Rattle.telegram.proofs.convert.byte_length.Tie as tie
+use Rattle.frame.proofs.byte_length.Statement.{statement}
+use Rattle.frame.proofs.byte_length.Tie as tie
 
 special-requires : tie.Need-special-requires
 special-requires c κs = search needs
