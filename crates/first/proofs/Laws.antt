@@ -15,8 +15,8 @@ passed-at fits k (suc n) zero h before there = rw (rw (add-zero k) at there)
 passed-at fits k (suc n) (suc j) h before there =
     let here : fits k ≡ false = rw (add-zero k) at (before 0 (omega arith)) in
     let later : passedFrom fits (suc k) n ≡ j =
-      passed-at fits (suc k) n j (omega arith) (λ i l. ap fits (suc-add k i ∙ sym (add-suc k i)) ∙ before (suc i) (omega arith))
-        (ap fits (suc-add k j ∙ sym (add-suc k j)) ∙ there) in
+    passed-at fits (suc k) n j (omega arith) (λ i l. ap fits (suc-add k i ∙ sym (add-suc k i)) ∙ before (suc i) (omega arith))
+    (ap fits (suc-add k j ∙ sym (add-suc k j)) ∙ there) in
     rw (here, later)
 
 passed-none : (fits : ℕ → Bool) (k n : ℕ) → ((i : ℕ) → i < n → fits (k + i) ≡ false) → passedFrom fits k n ≡ n
@@ -50,13 +50,14 @@ ended-from fits k (suc n) = go (fits k) refl (ended-from fits (suc k) n)
   where
     on : (i : ℕ) → suc k + i ≡ k + suc i
     on i = omega arith
+
     go : (t : Bool) → fits k ≡ t → Ended (λ i. fits (suc k + i)) n (passedFrom fits (suc k) n) → Ended (λ i. fits (k + i)) (suc n) (cond t 0 (suc (passedFrom fits (suc k) n)))
     go true e later = record { within = omega arith; before = λ i l. absurd (omega arith); there = λ l. ap fits (add-zero k) ∙ e }
     go false e later =
         record {
           within = omega (arith, later .within);
           before = λ i. elim i [ zero ↦ λ l. ap fits (add-zero k) ∙ e | suc m ↦ λ l. ap fits (sym (on m)) ∙ later .before m (le-of-suc-le-suc l) ];
-          there = λ l. ap fits (sym (on (passedFrom fits (suc k) n))) ∙ later .there (le-of-suc-le-suc l)
+          there = λ l. ap fits (sym (on (passedFrom fits (suc k) n))) ∙ later .there (le-of-suc-le-suc l);
         }
 
 pub ended : (fits : ℕ → Bool) (n : ℕ) → Ended fits n (firstPlace fits n)
@@ -66,7 +67,7 @@ ended fits n =
     record {
       within = e .within;
       before = λ i l. ap fits (sym (zero-add i)) ∙ e .before i l;
-      there = λ l. ap fits (sym (zero-add (passedFrom fits 0 n))) ∙ e .there l
+      there = λ l. ap fits (sym (zero-add (passedFrom fits 0 n))) ∙ e .there l;
     }
 
 -- two tests that tell the same of each place find the same one
@@ -75,6 +76,7 @@ first-same p q n same = go (decLt (firstPlace q n) n)
   where
     e : Ended q n (firstPlace q n)
     e = ended q n
+
     go : Dec (firstPlace q n < n) → firstPlace p n ≡ firstPlace q n
     go (yes h) = first-at p n (firstPlace q n) h (λ i l. same i (omega (arith, e .within)) ∙ e .before i l) (same (firstPlace q n) h ∙ e .there h)
     go (no h) =

@@ -22,7 +22,7 @@ use Rattle.telegram.specs.declared.Fault.{Fault}
 use Rattle.telegram.specs.declared.Fault.the-variants.{NotFramed, StrayEnd}
 use Rattle.telegram.specs.Write.{sealed, messageFor, unsealed, Writes, telegramFor, IsTooMuch, IsZeroAddress, IsUnknownType, IsOverRoom, writeRows, writeRefusal, writeAnswer}
 use Rattle.telegram.proofs.Send.{length-messageFor}
-use Rattle.telegram.specs.Read.{messageRefusal, fieldsOf, dataOf, readRefusal, Reads, readFrame, byte, Between, HasStrayEnd, notFramed, hasStrayEnd, Judges, Numbers}
+use Rattle.telegram.specs.Read.{messageRefusal, fieldsOf, dataOf, readRefusal, Reads, readFrame, byte, Between, HasStrayEnd, notFramed, hasStrayEnd, Judges, Numbers, Tells}
 use Rattle.telegram.proofs.Judge.{sized-passes, message-passes, first-false, reading-telegram, accepted-groups, refused-reading, accepted-sized, message-wrong, accepted-remainder}
 use Rattle.telegram.proofs.Sound.{messageOf-framed, framed-sound, sound-framed}
 use Rattle.telegram.specs.declared.Reading.{Reading}
@@ -234,3 +234,6 @@ writes-once d s t r bytes room p q = (p .0 ∙ sym (q .0), p .1 ∙ sym (q .1))
 
 pub numbers-once : (f : Fault) {a b : ℕ} → Numbers f a → Numbers f b → a ≡ b
 numbers-once f p q = p ∙ sym q
+
+pub tells-once : (r : Reading) {a b : Fault} → Tells r a → Tells r b → a ≡ b
+tells-once r p q = p ∙ sym q

@@ -191,3 +191,11 @@ Judges frame room r = r ≡ readFrame frame room
 
 abbrev pub Numbers : Fault → ℕ → Type 0
 Numbers fault r = r ≡ faultNumber fault
+
+-- `why`: the refusal of a reading that is one; a telegram has none, and is answered as row 1 would be
+abbrev pub whyNot : Reading → Fault
+whyNot (Refused f) = f
+whyNot (Telegram t) = NotFramed
+
+abbrev pub Tells : Reading → Fault → Type 0
+Tells reading r = r ≡ whyNot reading

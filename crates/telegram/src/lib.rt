@@ -6,7 +6,7 @@ mod writer;
 pub use reader::examine;
 pub use reader::read;
 pub use writer::write;
-ghost use Rattle.telegram.specs.Read.{Numbers};
+ghost use Rattle.telegram.specs.Read.{Numbers, Tells};
 
 // Why a frame could not be read, or a telegram not be written.
 pub enum Fault {
@@ -62,5 +62,16 @@ pub fn number(fault: Fault) -> u8
         Fault::CheckFault => 7,
         Fault::ZeroAddress => 8,
         Fault::UnknownType => 9,
+    }
+}
+
+// The refusal of a reading, for whoever passes it on whole. A telegram has none; it is answered
+// as NotFramed, and nobody asks.
+pub fn why(reading: Reading) -> Fault
+    ensures { λ r. ⌜ Tells reading r ⌝ }
+{
+    match reading {
+        Reading::Refused(fault) => fault,
+        Reading::Telegram(_) => Fault::NotFramed,
     }
 }
