@@ -25,13 +25,20 @@ use Rattle.values.specs.declared.Writing.the-variants as writing
 
 -- ---- "Kinds: 1 U8, 2 I8, 3 U16, 4 I16, 5 U32, 6 I32, 7 U64, sizes 1, 1, 2, 2, 4, 4, 8."
 
--- the size of a kind, in bytes; 0 of what is no kind
-unfoldable pub sizeOf : ℕ → ℕ
-sizeOf kind = getD (0 ∷ 1 ∷ 1 ∷ 2 ∷ 2 ∷ 4 ∷ 4 ∷ 8 ∷ []) kind 0
+-- by kind, from 0 on, which is none
+abbrev pub sizes : List ℕ
+sizes = 0 ∷ 1 ∷ 1 ∷ 2 ∷ 2 ∷ 4 ∷ 4 ∷ 8 ∷ []
 
 -- I8, I16 and I32
+abbrev pub signs : List Bool
+signs = false ∷ false ∷ true ∷ false ∷ true ∷ false ∷ true ∷ false ∷ []
+
+-- the size of a kind, in bytes; 0 of what is no kind
+unfoldable pub sizeOf : ℕ → ℕ
+sizeOf kind = getD sizes kind 0
+
 unfoldable pub isSigned : ℕ → Bool
-isSigned kind = getD (false ∷ false ∷ true ∷ false ∷ true ∷ false ∷ true ∷ false ∷ []) kind false
+isSigned kind = getD signs kind false
 
 -- ---- "Lowest byte first; signed kinds are two's complement."
 
@@ -128,7 +135,7 @@ unfoldable pub readRefusal : ℕ → List ℕ → ℕ → Option Fault
 readRefusal kind bytes element =
     firstOf (test (not (isKind kind)) UnknownKind
     ∷ test (eqb (length bytes) 0 || not (eqb (length bytes % sizeOf kind) 0)) WrongLength
-    ∷ test (leb (length bytes / sizeOf kind) element) NoSuchElement
+    ∷ test (ltb (length bytes) ((element + 1) * sizeOf kind)) NoSuchElement
     ∷ [])
 
 unfoldable pub storedRefusal : ℕ → Value → Option Fault
@@ -170,18 +177,18 @@ roomAfter none bytes room = over bytes room
 
 -- ---- "A one in the mask sets, clears or inverts that bit, a zero keeps it."
 
-unfoldable pub setBits : ℕ → ℕ → ℕ
+abbrev pub setBits : ℕ → ℕ → ℕ
 setBits v mask = bitOr v mask
 
 -- and-not: the 64 bits of `mask` turned round
-unfoldable pub clearBits : ℕ → ℕ → ℕ
+abbrev pub clearBits : ℕ → ℕ → ℕ
 clearBits v mask = bitAnd v (2 ^ 64 - 1 - mask)
 
-unfoldable pub toggleBits : ℕ → ℕ → ℕ
+abbrev pub toggleBits : ℕ → ℕ → ℕ
 toggleBits v mask = bitXor v mask
 
 -- the bit at a place, 0 the lowest
-unfoldable pub bitAt : ℕ → ℕ → ℕ
+abbrev pub bitAt : ℕ → ℕ → ℕ
 bitAt v place = v / 2 ^ place % 2
 
 -- ---- the contracts
