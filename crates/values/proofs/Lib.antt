@@ -1,3 +1,4 @@
 pub mod Table
 pub mod Bytes
 pub mod Sized
+pub mod Refusals

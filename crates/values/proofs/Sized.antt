@@ -25,8 +25,7 @@ pub size-of-kind : (kind : ℕ) → 1 ≤ kind → kind ≤ 7 → (1 ≤ sizeOf 
 unfolding sizeOf size-within
 size-of-kind zero l h = absurd (omega arith)
 size-of-kind (suc k) l h =
-    let t : T (size-within (getD sizes (suc k) 0)) = at size-within (1 ∷ 1 ∷ 2 ∷ 2 ∷ 4 ∷ 4 ∷ 8 ∷ []) 0 tt k (omega arith) in
-    (
+    let t : T (size-within (getD sizes (suc k) 0)) = at size-within (1 ∷ 1 ∷ 2 ∷ 2 ∷ 4 ∷ 4 ∷ 8 ∷ []) 0 tt k (omega arith) in (
       leb→le 1 _ (both-left (leb 1 (getD sizes (suc k) 0)) (leb (getD sizes (suc k) 0) 8) t),
       leb→le _ 8 (both-right (leb 1 (getD sizes (suc k) 0)) (leb (getD sizes (suc k) 0) 8) t),
     )

@@ -53,6 +53,7 @@ pub fn number(fault: Fault) -> u8
 
 // By kind, from 0 on: 0 is no kind.
 const SIZES: [usize; 8] = [0, 1, 1, 2, 2, 4, 4, 8];
+
 const SIGNED: [bool; 8] = [false, false, true, false, true, false, true, false];
 
 // How many bytes a value of that kind takes; 0 where there is no such kind.
@@ -60,11 +61,7 @@ pub fn size(kind: u8) -> usize
     ensures { λ r. ⌜ Sizes kind r ⌝ }
 {
     let at = kind as usize;
-    if at < 8 {
-        SIZES[at]
-    } else {
-        0
-    }
+    if at < 8 { SIZES[at] } else { 0 }
 }
 
 // Whether the kind has numbers below 0.
@@ -72,11 +69,7 @@ fn signed(kind: u8) -> bool
     ensures { λ r. ⌜ r ≡ isSigned kind ⌝ }
 {
     let at = kind as usize;
-    if at < 8 {
-        SIGNED[at]
-    } else {
-        false
-    }
+    if at < 8 { SIGNED[at] } else { false }
 }
 
 fn wide(byte: u8) -> u64

@@ -46,8 +46,8 @@ mul-value c =
     omega (
       arith,
       room (c .before .before .before .before .before .args .bytes .now) (c .before .before .loop .left) (c .before .before .loop .value)
-      (λ i. c .before .before .before .before .shared-slice-known .given i .fits)
-      (c .before .loop-test .taken) (c .before .before .loop .inv .1),
+          (λ i. c .before .before .before .before .shared-slice-known .given i .fits)
+          (c .before .loop-test .taken) (c .before .before .loop .inv .1),
     )
 
 shared-slice-read-wide : tie.Need-shared-slice-read-wide Inv-loop μ-loop
@@ -61,9 +61,9 @@ add-value c =
     omega (
       arith,
       room (c .before .before .before .before .before .before .before .args .bytes .now) (c .before .before .before .before .loop .left)
-      (c .before .before .before .before .loop .value)
-      (λ i. c .before .before .before .before .before .before .shared-slice-known .given i .fits)
-      (c .before .before .before .loop-test .taken) (c .before .before .before .before .loop .inv .1),
+          (c .before .before .before .before .loop .value)
+          (λ i. c .before .before .before .before .before .before .shared-slice-known .given i .fits)
+          (c .before .before .before .loop-test .taken) (c .before .before .before .before .loop .inv .1),
       c .wide .ensures,
       c .before .shared-slice-known2 .given (c .before .before .before .before .loop .left - 1),
     )
@@ -75,7 +75,7 @@ loop-again : tie.Need-loop-again Inv-loop μ-loop
 loop-again c = (
   omega arith,
   step (c .before .before .before .before .before .before .before .args .bytes .now) _ _ _ (c .before .before .before .loop-test .taken) (c .before .before .before .before .loop .inv .0) (c .wide .ensures)
-  (c .before .before .before .before .loop .inv .1),
+      (c .before .before .before .before .loop .inv .1),
 )
 
 returns : tie.Need-returns Inv-loop μ-loop

@@ -1,39 +1,115 @@
+-- `read` tests its rows in their order; what is left is the value of the element's bytes.
+-- Assumes nothing.
+use mathlib.Core.Path.{_≡_, refl, sym, ap, ap₂, _∙_}
+use mathlib.Core.Bool.{Bool, true, false}
+use mathlib.Core.List.{List}
+use Prim.Native.Nat.{ℕ, _+_, _-_, _*_, _/_, _%_, _^_, _<_, _≤_}
+use native.Mathlib.Nat.{div-lt-iff-lt-mul, le-div-iff-mul-le}
+use native.Mathlib.Omega.{arith}
 use borrow.Author.Needs.{needs}
+use borrow.Author.Tests.{lt-ltb, le-ltb, eq-eqb, ne-eqb}
+use lib.ListN.{length, take, drop, length-take, length-drop}
+use lib.Seq.{take-all}
+use Rattle.values.specs.Values.{sizeOf, isSigned, isKind, natural, valueAt, elementOf, readRefusal, readValue}
+use Rattle.values.specs.declared.Value.{Value}
+use Rattle.values.specs.declared.Fault.the-variants.{UnknownKind, WrongLength, NoSuchElement}
+use Rattle.values.specs.declared.Reading.the-variants.{Is, Refused}
+use Rattle.values.proofs.Bytes.{Bytes, bytes-take, bytes-drop, natural-lt}
+use Rattle.values.proofs.Sized.{size-le, kind-known, kind-unknown}
 use Rattle.values.proofs.read.Statement.{statement}
 use Rattle.values.proofs.read.Tie as tie
-use Rattle.values.proofs.read.Reads as reads
-use Rattle.values.proofs.read.Lts as lts
-use Rattle.values.proofs.load.Reads as load-reads
-use Rattle.values.proofs.signed.Reads as signed-reads
-use Rattle.values.proofs.size.Reads as size-reads
-use Rattle.values.proofs.value_at.Reads as value-at-reads
+
+-- an element lies within the bytes exactly where it is counted in them
+inside : (len n k : ℕ) → (n ≡ 0 → ⊥) → k < len / n → k * n + n ≤ len
+inside len n k some h = omega (arith, le-div-iff-mul-le {k = n} {x = k + 1} {y = len} (omega arith) .0 (omega arith))
+
+outside : (len n k : ℕ) → (n ≡ 0 → ⊥) → len / n ≤ k → len < (k + 1) * n
+outside len n k some h = div-lt-iff-lt-mul {k = n} {x = len} {y = k + 1} (omega arith) .0 (omega arith)
+
+module _ (kind : ℕ) (bytes : List ℕ) (element n : ℕ) (size : n ≡ sizeOf kind) where
+  unknown : n ≡ 0 → Refused UnknownKind ≡ readValue kind bytes element
+  unfolding readValue readRefusal
+  unknown e = rw (kind-unknown kind n size e)
+
+  module _ (some : n ≡ 0 → ⊥) where
+    empty : length bytes ≡ 0 → Refused WrongLength ≡ readValue kind bytes element
+    unfolding readValue readRefusal
+    empty e = rw (kind-known kind n size some, e)
+
+    module _ (filled : length bytes ≡ 0 → ⊥) where
+      uneven : (length bytes % n ≡ 0 → ⊥) → Refused WrongLength ≡ readValue kind bytes element
+      unfolding readValue readRefusal
+      uneven u = rw (kind-known kind n size some, ne-eqb _ _ filled, ← size, ne-eqb _ _ u)
+
+      module _ (even : length bytes % n ≡ 0) where
+        past : length bytes / n ≤ element → Refused NoSuchElement ≡ readValue kind bytes element
+        unfolding readValue readRefusal
+        past h =
+            rw (
+              kind-known kind n size some,
+              ne-eqb _ _ filled,
+              ← size,
+              even,
+              lt-ltb _ _ (outside (length bytes) n element some h),
+            )
+
+        found : element < length bytes / n → (v : Value) → v ≡ valueAt (isSigned kind) n (natural (elementOf n bytes element))
+            → Is v ≡ readValue kind bytes element
+        unfolding readValue readRefusal
+        found h v e =
+            let within : (element + 1) * n ≤ length bytes = omega (arith, inside (length bytes) n element some h) in
+            rw (
+              kind-known kind n size some,
+              ne-eqb _ _ filled,
+              ← size,
+              even,
+              le-ltb _ _ within,
+              e,
+            )
+
+-- the bytes of an element are so many, and they are what is loaded
+part : (bytes : List ℕ) (n k loaded : ℕ) → n ≤ 8 → loaded ≡ natural (take 8 (take (k * n + n - k * n) (drop (k * n) bytes)))
+    → loaded ≡ natural (elementOf n bytes k)
+unfolding elementOf
+part bytes n k loaded h e =
+    let many : k * n + n - k * n ≡ n = omega arith in
+    e ∙ rw (many, take-all 8 (take n (drop (k * n) bytes)) (omega (arith, length-take n (drop (k * n) bytes))))
+
+part-lt : (bytes : List ℕ) (n k : ℕ) → Bytes bytes → k * n + n ≤ length bytes → natural (elementOf n bytes k) < 2 ^ (8 * n)
+unfolding elementOf
+part-lt bytes n k b h =
+    let many : length (take n (drop (k * n) bytes)) ≡ n = omega (arith, length-take n (drop (k * n) bytes), length-drop (k * n) bytes) in
+    rw many at (natural-lt (take n (drop (k * n) bytes)) (bytes-take n (drop (k * n) bytes) (bytes-drop (k * n) bytes b)))
+
+few : (kind n : ℕ) → n ≡ sizeOf kind → (n ≡ 0 → ⊥) → n ≤ 8
+few kind n size some = omega (arith, size-le kind (omega arith))
 
 size-requires : tie.Need-size-requires
 size-requires c κs = search needs
 
 returns : tie.Need-returns
-returns c = ?
+returns c = unknown _ _ _ _ (c .before .size .ensures) (c .if1 .taken)
 
 returns-2 : tie.Need-returns-2
-returns-2 c = ?
+returns-2 c = empty _ _ _ _ (c .before .before .size .ensures) (c .before .if1 .left) (c .if2 .taken)
 
 rem-if3 : tie.Need-rem-if3
 rem-if3 c = search needs
 
 returns-3 : tie.Need-returns-3
-returns-3 c = ?
+returns-3 c = uneven _ _ _ _ (c .before .before .before .size .ensures) (c .before .before .if1 .left) (c .before .if2 .left) (c .if3 .taken)
 
 div-if4 : tie.Need-div-if4
 div-if4 c = search needs
 
 returns-4 : tie.Need-returns-4
-returns-4 c = ?
+returns-4 c = past _ _ _ _ (c .before .before .before .before .size .ensures) (c .before .before .before .if1 .left) (c .before .before .if2 .left) (c .before .if3 .left) (c .if4 .taken)
 
 mul-at : tie.Need-mul-at
-mul-at c = ?
+mul-at c = omega (arith, inside _ _ _ (c .before .before .before .if1 .left) (c .if4 .left))
 
 add-load : tie.Need-add-load
-add-load c = ?
+add-load c = omega (arith, inside _ _ _ (c .before .before .before .if1 .left) (c .if4 .left))
 
 sub-load : tie.Need-sub-load
 sub-load c = search needs
@@ -42,7 +118,7 @@ part-load-start : tie.Need-part-load-start
 part-load-start c = search needs
 
 part-load-end : tie.Need-part-load-end
-part-load-end c = ?
+part-load-end c = inside _ _ _ (c .before .before .before .if1 .left) (c .if4 .left)
 
 load-requires : tie.Need-load-requires
 load-requires c κs = search needs
@@ -51,10 +127,21 @@ signed-requires : tie.Need-signed-requires
 signed-requires c κs = search needs
 
 value-at-requires : tie.Need-value-at-requires
-value-at-requires c κs = ?
+value-at-requires c κs =
+    let n : c .before .before .before .before .before .before .before .size .result ≤ 8 = few _ _ (c .before .before .before .before .before .before .before .size .ensures) (c .before .before .before .before .before .before .if1 .left) in (
+      omega arith,
+      n,
+      rw (part (c .before .before .before .before .before .before .before .before .before .args .bytes .now) _ (c .before .before .before .before .before .before .before .before .before .args .element) _ n (c .before .load .ensures))
+          (part-lt _ _ _ (λ i. c .before .before .before .before .before .before .before .before .shared-slice-known .given i .fits) (inside _ _ _ (c .before .before .before .before .before .before .if1 .left) (c .before .before .before .if4 .left))),
+    )
 
 returns-5 : tie.Need-returns-5
-returns-5 c = ?
+returns-5 c =
+    let n : c .before .before .before .before .before .before .before .before .size .result ≤ 8 = few _ _ (c .before .before .before .before .before .before .before .before .size .ensures) (c .before .before .before .before .before .before .before .if1 .left) in
+    found _ _ _ _ (c .before .before .before .before .before .before .before .before .size .ensures) (c .before .before .before .before .before .before .before .if1 .left) (c .before .before .before .before .before .before .if2 .left) (c .before .before .before .before .before .if3 .left) (c .before .before .before .before .if4 .left) _
+    (c .value-at .ensures
+    ∙ ap₂ (λ (b : Bool) (v : ℕ). valueAt b (c .before .before .before .before .before .before .before .before .size .result) v) (c .before .signed .ensures)
+    (part (c .before .before .before .before .before .before .before .before .before .before .args .bytes .now) _ (c .before .before .before .before .before .before .before .before .before .before .args .element) _ n (c .before .before .load .ensures)))
 
 pub read-spec : {M : Type 1} → statement M
 read-spec =

@@ -1,11 +1,35 @@
+-- `write` is decided by the stored form and then by the room; a written value is laid over the room's first bytes.
+-- Assumes nothing.
+use mathlib.Core.Path.{_≡_, sym, ap, ap₂, _∙_}
+use mathlib.Core.List.{List}
+use mathlib.Core.Option.{some, none}
+use Prim.Native.Nat.{ℕ, _<_, _≤_}
 use borrow.Author.Needs.{needs}
+use borrow.Author.Tests.{lt-ltb, le-ltb}
+use lib.ListN.{length}
+use Rattle.lent.specs.Lent.{over}
+use Rattle.values.specs.Values.{sizeOf, storedAt, storedValue, bytesOf, Writes}
+use Rattle.values.specs.declared.Value.{Value}
+use Rattle.values.specs.declared.Fault.the-variants.{ShortBuffer}
+use Rattle.values.specs.declared.Stored.the-variants.{As}
+use Rattle.values.specs.declared.Writing.the-variants.{Done, Refused}
+use Rattle.values.proofs.Refusals.{stored-refused, stored-as, write-room, write-refused, write-done}
 use Rattle.values.proofs.write.Statement.{statement}
 use Rattle.values.proofs.write.Tie as tie
-use Rattle.values.proofs.write.Reads as reads
-use Rattle.values.proofs.write.Lts as lts
-use Rattle.values.proofs.as_stored.Reads as as-stored-reads
-use Rattle.values.proofs.size.Reads as size-reads
-use Rattle.values.proofs.store.Reads as store-reads
+
+module _ (kind : ℕ) (value : Value) (room : List ℕ) (n v : ℕ) (kept : storedValue kind value ≡ As v) (size : n ≡ sizeOf kind) where
+  short : length room < n → Writes kind value room (Refused ShortBuffer) room
+  short h =
+      let k = stored-as kind value v kept in
+      write-refused kind value room ShortBuffer
+      (write-room kind value (length room) (k .0) (k .1) ∙ rw (lt-ltb (length room) (sizeOf kind) (rw size at h)))
+
+  laid : (room′ : List ℕ) → n ≤ length room → room′ ≡ over (bytesOf n v) room → Writes kind value room Done room′
+  laid room′ h e =
+      let k = stored-as kind value v kept in
+      write-done kind value room room′
+      (write-room kind value (length room) (k .0) (k .1) ∙ rw (le-ltb (length room) (sizeOf kind) (rw size at h)))
+      (e ∙ ap₂ (λ (m w : ℕ). over (bytesOf m w) room) size (k .2))
 
 as-stored-requires : tie.Need-as-stored-requires
 as-stored-requires c κs = search needs
@@ -20,19 +44,21 @@ size-requires : tie.Need-size-requires
 size-requires c κs = search needs
 
 returns : tie.Need-returns
-returns c = ?
+returns c = short _ _ _ _ _ (sym (c .before .before .before .before .before .as-stored .ensures) ∙ c .before .before .before .number .given .1) (c .before .size .ensures) (c .if1 .taken)
 
 store-requires : tie.Need-store-requires
 store-requires c κs = search needs
 
 returns-2 : tie.Need-returns-2
-returns-2 c = ?
+returns-2 c =
+    write-refused _ _ _ _ (stored-refused _ _ _ _ (sym (c .before .before .before .as-stored .ensures) ∙ c .before .fault .given .1))
 
 same-length : tie.Need-same-length
 same-length c = search needs
 
 returns-3 : tie.Need-returns-3
-returns-3 c = ?
+returns-3 c =
+    laid _ _ _ _ _ (sym (c .before .before .before .before .before .before .before .before .before .as-stored .ensures) ∙ c .before .before .before .before .before .before .before .number .given .1) (c .before .before .before .before .before .size .ensures) _ (c .before .before .before .before .if1 .left) (c .before .before .store .ensures)
 
 pub write-spec : {M : Type 1} → statement M
 write-spec =
