@@ -9,11 +9,7 @@ use native.Mathlib.Omega.{arith}
 use lib.ListN.{length, getD, take, drop, length-drop, List·getD-eq-default, length-take}
 use lib.Pow.{pow-add, pow-mono, shr-shr}
 use lib.Seq.{drop-cons, getD-take, getD-drop}
-use Rattle.values.specs.Values.{natural, bytesOf}
-
--- each of these numbers is a byte
-abbrev pub Bytes : List ℕ → Type 0
-Bytes xs = (i : ℕ) → getD xs i 0 < 256
+use Rattle.values.specs.Values.{Bytes, natural, bytesOf}
 
 pub bytes-take : (n : ℕ) (xs : List ℕ) → Bytes xs → Bytes (take n xs)
 bytes-take n xs b i = elim (decLt i n) [

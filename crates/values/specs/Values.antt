@@ -67,7 +67,18 @@ unfoldable pub storedAt : ℕ → Value → ℕ
 storedAt n (Natural v) = v
 storedAt n (Negative m) = 2 ^ (8 * n) - 1 - m
 
--- n bytes can hold the value, signed or not
+-- each of these numbers is a byte
+abbrev pub Bytes : List ℕ → Type 0
+Bytes xs = (i : ℕ) → getD xs i 0 < 256
+
+-- there are n bytes that have this value
+pub record Held (signed : Bool) (n : ℕ) (value : Value) : Type 0 where
+  pub bytes : List ℕ
+  pub many : length bytes ≡ n
+  pub each : Bytes bytes
+  pub mean : valueAt signed n (natural bytes) ≡ value
+
+-- the same by the ends of the range: n bytes can hold the value, signed or not
 unfoldable pub Holds : Bool → ℕ → Value → Type 0
 Holds false n (Natural v) = v < 2 ^ (8 * n)
 Holds false n (Negative m) = ⊥
@@ -131,19 +142,28 @@ unfoldable pub fits : ℕ → Value → Bool
 fits kind (Natural v) = leb v (greatest kind)
 fits kind (Negative m) = cond (isSigned kind) (leb m (greatest kind)) false
 
-unfoldable pub readRefusal : ℕ → List ℕ → ℕ → Option Fault
-readRefusal kind bytes element =
-    firstOf (test (not (isKind kind)) UnknownKind
+abbrev pub readTests : ℕ → List ℕ → ℕ → List (Test Fault)
+readTests kind bytes element =
+    test (not (isKind kind)) UnknownKind
     ∷ test (eqb (length bytes) 0 || not (eqb (length bytes % sizeOf kind) 0)) WrongLength
     ∷ test (ltb (length bytes) ((element + 1) * sizeOf kind)) NoSuchElement
-    ∷ [])
+    ∷ []
+
+unfoldable pub readRefusal : ℕ → List ℕ → ℕ → Option Fault
+readRefusal kind bytes element = firstOf (readTests kind bytes element)
+
+abbrev pub storedTests : ℕ → Value → List (Test Fault)
+storedTests kind value = test (not (isKind kind)) UnknownKind ∷ test (not (fits kind value)) DoesNotFit ∷ []
 
 unfoldable pub storedRefusal : ℕ → Value → Option Fault
-storedRefusal kind value = firstOf (test (not (isKind kind)) UnknownKind ∷ test (not (fits kind value)) DoesNotFit ∷ [])
+storedRefusal kind value = firstOf (storedTests kind value)
+
+abbrev pub writeTests : ℕ → Value → ℕ → List (Test Fault)
+writeTests kind value room =
+    test (not (isKind kind)) UnknownKind ∷ test (not (fits kind value)) DoesNotFit ∷ test (ltb room (sizeOf kind)) ShortBuffer ∷ []
 
 unfoldable pub writeRefusal : ℕ → Value → ℕ → Option Fault
-writeRefusal kind value room =
-    firstOf (test (not (isKind kind)) UnknownKind ∷ test (not (fits kind value)) DoesNotFit ∷ test (ltb room (sizeOf kind)) ShortBuffer ∷ [])
+writeRefusal kind value room = firstOf (writeTests kind value room)
 
 -- ---- the calls' answers, each from its refusal
 

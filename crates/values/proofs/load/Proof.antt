@@ -8,8 +8,8 @@ use native.Mathlib.Omega.{arith}
 use borrow.Author.Needs.{needs}
 use lib.ListN.{length, getD, take, drop, length-take}
 use lib.Seq.{drop-length, getD-take}
-use Rattle.values.specs.Values.{natural}
-use Rattle.values.proofs.Bytes.{Bytes, bytes-take, natural-from, natural-room}
+use Rattle.values.specs.Values.{Bytes, natural}
+use Rattle.values.proofs.Bytes.{bytes-take, natural-from, natural-room}
 use Rattle.values.proofs.load.Statement.{statement}
 use Rattle.values.proofs.load.Tie as tie
 

@@ -10,11 +10,11 @@ use borrow.Author.Needs.{needs}
 use borrow.Author.Tests.{lt-ltb, le-ltb, eq-eqb, ne-eqb}
 use lib.ListN.{length, take, drop, length-take, length-drop}
 use lib.Seq.{take-all}
-use Rattle.values.specs.Values.{sizeOf, isSigned, isKind, natural, valueAt, elementOf, readRefusal, readValue}
+use Rattle.values.specs.Values.{Bytes, sizeOf, isSigned, isKind, natural, valueAt, elementOf, readRefusal, readValue}
 use Rattle.values.specs.declared.Value.{Value}
 use Rattle.values.specs.declared.Fault.the-variants.{UnknownKind, WrongLength, NoSuchElement}
 use Rattle.values.specs.declared.Reading.the-variants.{Is, Refused}
-use Rattle.values.proofs.Bytes.{Bytes, bytes-take, bytes-drop, natural-lt}
+use Rattle.values.proofs.Bytes.{bytes-take, bytes-drop, natural-lt}
 use Rattle.values.proofs.Sized.{size-le, kind-known, kind-unknown}
 use Rattle.values.proofs.read.Statement.{statement}
 use Rattle.values.proofs.read.Tie as tie

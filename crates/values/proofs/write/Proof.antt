@@ -13,7 +13,7 @@ use Rattle.values.specs.declared.Value.{Value}
 use Rattle.values.specs.declared.Fault.the-variants.{ShortBuffer}
 use Rattle.values.specs.declared.Stored.the-variants.{As}
 use Rattle.values.specs.declared.Writing.the-variants.{Done, Refused}
-use Rattle.values.proofs.Refusals.{stored-refused, stored-as, write-room, write-refused, write-done}
+use Rattle.values.proofs.Refusals.{stored-refused, stored-as, write-refused-so, write-room, write-refused, write-done}
 use Rattle.values.proofs.write.Statement.{statement}
 use Rattle.values.proofs.write.Tie as tie
 
@@ -22,14 +22,14 @@ module _ (kind : ℕ) (value : Value) (room : List ℕ) (n v : ℕ) (kept : stor
   short h =
       let k = stored-as kind value v kept in
       write-refused kind value room ShortBuffer
-      (write-room kind value (length room) (k .0) (k .1) ∙ rw (lt-ltb (length room) (sizeOf kind) (rw size at h)))
+      (write-room kind value (length room) (k .0) ∙ rw (lt-ltb (length room) (sizeOf kind) (rw size at h)))
 
   laid : (room′ : List ℕ) → n ≤ length room → room′ ≡ over (bytesOf n v) room → Writes kind value room Done room′
   laid room′ h e =
       let k = stored-as kind value v kept in
       write-done kind value room room′
-      (write-room kind value (length room) (k .0) (k .1) ∙ rw (le-ltb (length room) (sizeOf kind) (rw size at h)))
-      (e ∙ ap₂ (λ (m w : ℕ). over (bytesOf m w) room) size (k .2))
+      (write-room kind value (length room) (k .0) ∙ rw (le-ltb (length room) (sizeOf kind) (rw size at h)))
+      (e ∙ ap₂ (λ (m w : ℕ). over (bytesOf m w) room) size (k .1))
 
 as-stored-requires : tie.Need-as-stored-requires
 as-stored-requires c κs = search needs
@@ -51,7 +51,7 @@ store-requires c κs = search needs
 
 returns-2 : tie.Need-returns-2
 returns-2 c =
-    write-refused _ _ _ _ (stored-refused _ _ _ _ (sym (c .before .before .before .as-stored .ensures) ∙ c .before .fault .given .1))
+    write-refused _ _ _ _ (write-refused-so _ _ _ _ (stored-refused _ _ _ (sym (c .before .before .before .as-stored .ensures) ∙ c .before .fault .given .1)))
 
 same-length : tie.Need-same-length
 same-length c = search needs
