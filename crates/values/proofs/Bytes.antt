@@ -4,12 +4,12 @@ use mathlib.Core.Path.{_≡_, refl, sym, ap, ap₂, _∙_}
 use mathlib.Core.List.{List, [], _∷_}
 use Prim.Native.Nat.{ℕ, zero, suc, _+_, _-_, _*_, _/_, _%_, _^_, _≤_, _<_}
 use native.Mathlib.Decide.{decLt}
-use native.Mathlib.Nat.{lt-of-lt-of-le, suc-inj, div-one, le-of-suc-le-suc}
+use native.Mathlib.Nat.{lt-of-lt-of-le, div-one, le-of-suc-le-suc}
 use native.Mathlib.Omega.{arith}
 use lib.ListN.{length, getD, take, drop, length-drop, List·getD-eq-default, length-take}
 use lib.Pow.{pow-add, pow-mono, shr-shr}
 use lib.Seq.{drop-cons, getD-take, getD-drop}
-use Rattle.values.specs.Values.{Bytes, natural, bytesOf}
+use Rattle.values.specs.Values.{Bytes, natural, bytesOf, elementOf}
 
 pub bytes-take : (n : ℕ) (xs : List ℕ) → Bytes xs → Bytes (take n xs)
 bytes-take n xs b i = elim (decLt i n) [
@@ -19,6 +19,15 @@ bytes-take n xs b i = elim (decLt i n) [
 
 pub bytes-drop : (n : ℕ) (xs : List ℕ) → Bytes xs → Bytes (drop n xs)
 bytes-drop n xs b i = rw (getD-drop n xs i 0) (b (n + i))
+
+-- the bytes of an element
+pub bytes-element : (n : ℕ) (xs : List ℕ) (k : ℕ) → Bytes xs → Bytes (elementOf n xs k)
+unfolding elementOf
+bytes-element n xs k b = bytes-take n (drop (k * n) xs) (bytes-drop (k * n) xs b)
+
+pub length-element : (n : ℕ) (xs : List ℕ) (k : ℕ) → k * n + n ≤ length xs → length (elementOf n xs k) ≡ n
+unfolding elementOf
+length-element n xs k h = omega (arith, length-take n (drop (k * n) xs), length-drop (k * n) xs)
 
 -- one byte more
 pub power-byte : (n : ℕ) → 2 ^ (8 * suc n) ≡ 256 * 2 ^ (8 * n)
@@ -34,6 +43,9 @@ natural-lt (x ∷ xs) b =
     let h : x < 256 = b 0 in
     let l : natural xs < 2 ^ (8 * length xs) = natural-lt xs (λ i. b (suc i)) in
     rw (power-byte (length xs)) (omega arith)
+
+pub element-lt : (n : ℕ) (xs : List ℕ) (k : ℕ) → Bytes xs → k * n + n ≤ length xs → natural (elementOf n xs k) < 2 ^ (8 * n)
+element-lt n xs k b h = rw (length-element n xs k h) at (natural-lt (elementOf n xs k) (bytes-element n xs k b))
 
 pub length-bytesOf : (n v : ℕ) → length (bytesOf n v) ≡ n
 unfolding bytesOf

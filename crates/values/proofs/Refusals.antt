@@ -1,20 +1,21 @@
 -- Each call's refusal is the one that its rows give, and what an answer tells of it.
 -- Assumes nothing.
-use mathlib.Core.Path.{_≡_, refl, sym, ap, _∙_}
+use mathlib.Core.Path.{_≡_, refl, sym, ap, ap₂, _∙_}
 use mathlib.Core.Bool.{Bool, true, false, cond, not, _||_, true≢false}
 use mathlib.Core.List.{List}
 use mathlib.Core.Option.{Option, some, none}
 use Prim.Native.Nat.{ℕ, _+_, _-_, _*_, _/_, _%_, _^_, _<_, _≤_}
-use native.Mathlib.Nat.{div-add-mod', mul-mod-left, le-antisymm}
+use native.Mathlib.Nat.{div-add-mod', mul-mod-left}
 use native.Mathlib.Omega.{arith}
 use borrow.Author.Tests.{ltb-false, not-false}
 use lib.Dec.{leb, ltb, eqb}
-use lib.ListN.{length}
+use lib.ListN.{length, take}
 use lib.Pow.{pow-pos}
 use Rattle.lent.specs.Lent.{over}
+use Rattle.lent.proofs.Laws.{take-over}
 use Rattle.rows.specs.Rows.{Ranked}
 use Rattle.rows.proofs.Laws.{Decides, decides-le, decides-lt, decides-eq, decides-not, decides-or, decides-as, ranked}
-use Rattle.values.specs.Values.{sizeOf, isSigned, isKind, greatest, fits, Holds, valueAt, natural, elementOf, storedAt, bytesOf, NoKind, BadLength, NoElement, Unfit, NoRoom, readRows, storedRows, writeRows, readAnswer, readTests, readRefusal, readValue, storedAnswer, storedTests, storedRefusal, storedValue, writeTests, writeRefusal, roomAfter, Writes}
+use Rattle.values.specs.Values.{sizeOf, isSigned, isKind, greatest, fits, Holds, valueAt, natural, elementOf, storedAt, bytesOf, NoKind, BadLength, NoElement, Unfit, NoRoom, readRows, storedRows, writeRows, readAnswer, readTests, readRefusal, readValue, storedAnswer, storedTests, storedRefusal, storedValue, writeTests, writeRefusal, writeAnswer, roomAfter, Writes}
 use Rattle.values.specs.declared.Value.{Value}
 use Rattle.values.specs.declared.Value.the-variants.{Natural, Negative}
 use Rattle.values.specs.declared.Fault.{Fault}
@@ -22,6 +23,7 @@ use Rattle.values.specs.declared.Fault.the-variants.{UnknownKind, DoesNo
 use Rattle.values.specs.declared.Reading.the-variants as reading
 use Rattle.values.specs.declared.Stored.the-variants as stored
 use Rattle.values.specs.declared.Writing.the-variants as writing
+use Rattle.values.proofs.Bytes.{length-bytesOf}
 use Rattle.values.proofs.Sized.{size-of-kind, kind-of-size}
 
 -- ---- the tests decide the rows
@@ -70,8 +72,7 @@ decides-fits kind (Negative m) = negative-fits (isSigned kind) (sizeOf kind) m
 pub read-ranked : (kind : ℕ) (bytes : List ℕ) (element : ℕ) → Ranked (readRows kind bytes element) (readRefusal kind bytes element)
 unfolding readRows readRefusal NoKind BadLength NoElement
 read-ranked kind bytes element =
-    ranked (readTests kind bytes element) (readRows kind bytes element)
-    (
+    ranked (readTests kind bytes element) (readRows kind bytes element) (
       decides-not (decides-kind kind),
       (refl, (decides-or (decides-eq (length bytes) 0) (decides-length kind bytes), (refl, (decides-lt _ _, (refl, tt))))),
     )
@@ -85,8 +86,7 @@ stored-ranked kind value =
 pub write-ranked : (kind : ℕ) (value : Value) (room : List ℕ) → Ranked (writeRows kind value room) (writeRefusal kind value (length room))
 unfolding writeRows writeRefusal NoKind Unfit NoRoom
 write-ranked kind value room =
-    ranked (writeTests kind value (length room)) (writeRows kind value room)
-    (
+    ranked (writeTests kind value (length room)) (writeRows kind value room) (
       decides-not (decides-kind kind),
       (refl, (decides-not (decides-fits kind value), (refl, (decides-lt _ _, (refl, tt))))),
     )
@@ -112,6 +112,20 @@ read-none kind bytes element e =
     let second = none-first (eqb (length bytes) 0 || not (eqb (length bytes % sizeOf kind) 0)) _ _ (first .1) in
     let third = none-first (ltb (length bytes) ((element + 1) * sizeOf kind)) _ _ (second .1) in
     (not-false _ (first .0), ltb-false _ _ (third .0))
+
+-- the bytes themselves are not tested, only how many there are
+pub read-same-length : (kind : ℕ) (xs ys : List ℕ) (element : ℕ) → length xs ≡ length ys → readRefusal kind ys element ≡ none → readRefusal kind xs element ≡ none
+unfolding readRefusal
+read-same-length kind xs ys element same e = rw same e
+
+-- and what makes none
+pub stored-so : (kind : ℕ) (value : Value) → isKind kind ≡ true → Holds (isSigned kind) (sizeOf kind) value → storedRefusal kind value ≡ none
+unfolding storedRefusal
+stored-so kind value k h = rw (k, decided (fits kind value) (decides-fits kind value) h)
+  where
+    decided : (b : Bool) {P : Type 0} → Decides b P → P → b ≡ true
+    decided true d p = refl
+    decided false d p = absurd (d .not-so refl p)
 
 -- ---- what an answer tells
 
@@ -173,3 +187,26 @@ pub write-done : (kind : ℕ) (value : Value) (room room′ : List ℕ) → writ
     → room′ ≡ over (bytesOf (sizeOf kind) (storedAt (sizeOf kind) value)) room → Writes kind value room writing.Done room′
 unfolding roomAfter
 write-done kind value room room′ e laid = (rw e, rw e laid)
+
+-- what was written stands in the first bytes
+pub write-is : (kind : ℕ) (value : Value) (room room′ : List ℕ) → Writes kind value room writing.Done room′
+    → (storedRefusal kind value ≡ none) × (take (sizeOf kind) room′ ≡ bytesOf (sizeOf kind) (storedAt (sizeOf kind) value))
+unfolding storedRefusal writeRefusal roomAfter
+write-is kind value room room′ w =
+    let no : writeRefusal kind value (length room) ≡ none = by-refusal (writeRefusal kind value (length room)) (w .0) in
+    let first = none-first (not (isKind kind)) _ _ no in
+    let second = none-first (not (fits kind value)) _ _ (first .1) in
+    let third = none-first (ltb (length room) (sizeOf kind)) _ _ (second .1) in (
+      rw (first .0, second .0),
+      first-bytes (sizeOf kind) (storedAt (sizeOf kind) value) room room′ (ltb-false _ _ (third .0))
+          (w .1 ∙ ap (λ (o : Option Fault). roomAfter o (bytesOf (sizeOf kind) (storedAt (sizeOf kind) value)) room) no),
+    )
+  where
+    by-refusal : (o : Option Fault) → writing.Done ≡ writeAnswer o → o ≡ none
+    by-refusal none e = refl
+    by-refusal (some f) e = absurd (let z : _≡_ {A = ℕ} 0 1 = cc in omega arith)
+
+    first-bytes : (n v : ℕ) (d d′ : List ℕ) → n ≤ length d → d′ ≡ over (bytesOf n v) d → take n d′ ≡ bytesOf n v
+    first-bytes n v d d′ h e =
+        ap₂ (λ (k : ℕ) (l : List ℕ). take k l) (sym (length-bytesOf n v)) e
+        ∙ take-over (bytesOf n v) d (rw (length-bytesOf n v) h)

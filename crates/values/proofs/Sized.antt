@@ -1,15 +1,14 @@
 -- Values of n bytes, signed or not: what the kinds share, over the size.
 -- Assumes nothing.
-use mathlib.Core.Path.{_≡_, refl, sym, ap, ap₂, _∙_, subst}
-use mathlib.Core.Bool.{Bool, true, false, cond, not, _&&_, true≢false}
-use mathlib.Core.List.{List, [], _∷_}
-use Prim.Native.Nat.{ℕ, zero, suc, _+_, _-_, _*_, _^_, _≤_, _<_}
+use mathlib.Core.Path.{_≡_, refl, sym, ap, _∙_}
+use mathlib.Core.Bool.{Bool, true, false, _&&_}
+use mathlib.Core.List.{[], _∷_}
+use Prim.Native.Nat.{ℕ, zero, suc, _-_, _*_, _^_, _≤_, _<_}
 use native.Mathlib.Decide.{decLt}
-use native.Mathlib.Nat.{pow-suc}
 use native.Mathlib.Omega.{arith}
-use borrow.Author.Tests.{lt-ltb, le-ltb, ne-eqb}
-use lib.Dec.{T, ltb, leb, eqb, leb→le}
-use lib.ListN.{length, getD, List·getD-eq-default}
+use borrow.Author.Tests.{lt-ltb, le-ltb, ne-eqb, eqb-false, not-true}
+use lib.Dec.{T, leb, eqb, leb→le}
+use lib.ListN.{getD, List·getD-eq-default}
 use lib.Pow.{pow-pos, pow-mono}
 use Rattle.values.specs.Values.{sizes, sizeOf, isSigned, isKind, greatest, valueAt, storedAt, Holds}
 use Rattle.values.specs.declared.Value.{Value}
@@ -84,3 +83,34 @@ value-low b n v e h = rw (e, lt-ltb _ _ h)
 pub value-high : (b : Bool) (n v : ℕ) → b ≡ true → 2 ^ (8 * n - 1) ≤ v → Negative (2 ^ (8 * n) - 1 - v) ≡ valueAt b n v
 unfolding valueAt
 value-high b n v e h = rw (e, le-ltb _ _ h)
+
+-- ---- a value and the number of its bytes are inverse, where the value can be held
+
+pub stored-back : (b : Bool) (n : ℕ) (value : Value) → 0 < n → Holds b n value
+    → (storedAt n value < 2 ^ (8 * n)) × (valueAt b n (storedAt n value) ≡ value)
+unfolding Holds storedAt
+stored-back false n (Natural v) p h = (h, sym (value-unsigned false n v refl))
+stored-back false n (Negative m) p h = absurd h
+stored-back true n (Natural v) p h = (omega (arith, power-half n p), sym (value-low true n v refl h))
+stored-back true n (Negative m) p h =
+    let double : 2 ^ (8 * n) ≡ 2 * 2 ^ (8 * n - 1) = power-half n p in
+    let back : 2 ^ (8 * n) - 1 - (2 ^ (8 * n) - 1 - m) ≡ m = omega arith in (
+      omega (arith, pow-pos (8 * n)),
+      sym (value-high true n (2 ^ (8 * n) - 1 - m) refl (omega arith)) ∙ ap Negative back,
+    )
+
+pub value-back : (b : Bool) (n v : ℕ) → 0 < n → v < 2 ^ (8 * n) → Holds b n (valueAt b n v) × (storedAt n (valueAt b n v) ≡ v)
+unfolding Holds storedAt valueAt
+value-back false n v p h = (h, refl)
+value-back true n v p h = elim (decLt v (2 ^ (8 * n - 1))) [
+  | yes low ↦ rw (lt-ltb _ _ low) (low, refl)
+  | no high ↦ let double : 2 ^ (8 * n) ≡ 2 * 2 ^ (8 * n - 1) = power-half n p in
+      rw (le-ltb v (2 ^ (8 * n - 1)) (omega arith)) (omega arith, omega arith)
+]
+
+pub kind-positive : (kind : ℕ) → isKind kind ≡ true → 0 < sizeOf kind
+unfolding isKind
+kind-positive kind e = positive (sizeOf kind) (eqb-false (sizeOf kind) 0 (not-true (eqb (sizeOf kind) 0) e))
+  where
+    positive : (n : ℕ) → (n ≡ 0 → ⊥) → 0 < n
+    positive n h = omega arith

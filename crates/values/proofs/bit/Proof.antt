@@ -1,8 +1,7 @@
 -- `bit` tests the place of `bitAt`; a number of 64 bits has no one above them.
 -- Assumes nothing.
-use mathlib.Core.Path.{_≡_, refl, sym, ap, _∙_}
-use mathlib.Core.Bool.{Bool}
-use Prim.Native.Nat.{ℕ, _/_, _%_, _^_, _<_, _≤_}
+use mathlib.Core.Path.{_≡_, refl, sym, ap}
+use Prim.Native.Nat.{ℕ, _%_, _^_, _<_, _≤_}
 use native.Mathlib.Nat.{div-eq-of-lt, lt-of-lt-of-le}
 use borrow.Author.Needs.{needs}
 use lib.Dec.{eqb}

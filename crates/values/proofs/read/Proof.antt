@@ -1,20 +1,20 @@
 -- `read` tests its rows in their order; what is left is the value of the element's bytes.
 -- Assumes nothing.
-use mathlib.Core.Path.{_≡_, refl, sym, ap, ap₂, _∙_}
-use mathlib.Core.Bool.{Bool, true, false}
+use mathlib.Core.Path.{_≡_, ap₂, _∙_}
+use mathlib.Core.Bool.{Bool}
 use mathlib.Core.List.{List}
-use Prim.Native.Nat.{ℕ, _+_, _-_, _*_, _/_, _%_, _^_, _<_, _≤_}
+use Prim.Native.Nat.{ℕ, _+_, _-_, _*_, _/_, _%_, _<_, _≤_}
 use native.Mathlib.Nat.{div-lt-iff-lt-mul, le-div-iff-mul-le}
 use native.Mathlib.Omega.{arith}
 use borrow.Author.Needs.{needs}
-use borrow.Author.Tests.{lt-ltb, le-ltb, eq-eqb, ne-eqb}
-use lib.ListN.{length, take, drop, length-take, length-drop}
+use borrow.Author.Tests.{lt-ltb, le-ltb, ne-eqb}
+use lib.ListN.{length, take, drop, length-take}
 use lib.Seq.{take-all}
-use Rattle.values.specs.Values.{Bytes, sizeOf, isSigned, isKind, natural, valueAt, elementOf, readRefusal, readValue}
+use Rattle.values.specs.Values.{sizeOf, isSigned, natural, valueAt, elementOf, readRefusal, readValue}
 use Rattle.values.specs.declared.Value.{Value}
 use Rattle.values.specs.declared.Fault.the-variants.{UnknownKind, WrongLength, NoSuchElement}
 use Rattle.values.specs.declared.Reading.the-variants.{Is, Refused}
-use Rattle.values.proofs.Bytes.{bytes-take, bytes-drop, natural-lt}
+use Rattle.values.proofs.Bytes.{element-lt}
 use Rattle.values.proofs.Sized.{size-le, kind-known, kind-unknown}
 use Rattle.values.proofs.read.Statement.{statement}
 use Rattle.values.proofs.read.Tie as tie
@@ -75,12 +75,6 @@ part bytes n k loaded h e =
     let many : k * n + n - k * n ≡ n = omega arith in
     e ∙ rw (many, take-all 8 (take n (drop (k * n) bytes)) (omega (arith, length-take n (drop (k * n) bytes))))
 
-part-lt : (bytes : List ℕ) (n k : ℕ) → Bytes bytes → k * n + n ≤ length bytes → natural (elementOf n bytes k) < 2 ^ (8 * n)
-unfolding elementOf
-part-lt bytes n k b h =
-    let many : length (take n (drop (k * n) bytes)) ≡ n = omega (arith, length-take n (drop (k * n) bytes), length-drop (k * n) bytes) in
-    rw many at (natural-lt (take n (drop (k * n) bytes)) (bytes-take n (drop (k * n) bytes) (bytes-drop (k * n) bytes b)))
-
 few : (kind n : ℕ) → n ≡ sizeOf kind → (n ≡ 0 → ⊥) → n ≤ 8
 few kind n size some = omega (arith, size-le kind (omega arith))
 
@@ -132,7 +126,7 @@ value-at-requires c κs =
       omega arith,
       n,
       rw (part (c .before .before .before .before .before .before .before .before .before .args .bytes .now) _ (c .before .before .before .before .before .before .before .before .before .args .element) _ n (c .before .load .ensures))
-          (part-lt _ _ _ (λ i. c .before .before .before .before .before .before .before .before .shared-slice-known .given i .fits) (inside _ _ _ (c .before .before .before .before .before .before .if1 .left) (c .before .before .before .if4 .left))),
+          (element-lt _ _ _ (λ i. c .before .before .before .before .before .before .before .before .shared-slice-known .given i .fits) (inside _ _ _ (c .before .before .before .before .before .before .if1 .left) (c .before .before .before .if4 .left))),
     )
 
 returns-5 : tie.Need-returns-5

@@ -1,14 +1,11 @@
 -- `value_at` is `valueAt`: 2 ^ (8 * size) is twice the middle.
 -- Assumes nothing.
-use mathlib.Core.Path.{_≡_, refl, sym, ap, _∙_}
-use mathlib.Core.Bool.{true, false}
-use Prim.Native.Nat.{ℕ, _+_, _-_, _*_, _^_, _<_, _≤_}
+use mathlib.Core.Path.{_≡_, ap, _∙_}
+use Prim.Native.Nat.{ℕ, _-_, _*_, _^_, _<_, _≤_}
 use native.Mathlib.Omega.{arith}
 use borrow.Author.Needs.{needs}
 use lib.Pow.{pow-pos}
-use Rattle.values.specs.Values.{valueAt}
-use Rattle.values.specs.declared.Value.{Value}
-use Rattle.values.specs.declared.Value.the-variants.{Natural, Negative}
+use Rattle.values.specs.declared.Value.the-variants.{Negative}
 use Rattle.values.proofs.Sized.{power-half, value-unsigned, value-low, value-high}
 use Rattle.values.proofs.value_at.Statement.{statement}
 use Rattle.values.proofs.value_at.Tie as tie

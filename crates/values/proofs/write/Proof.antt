@@ -1,14 +1,13 @@
 -- `write` is decided by the stored form and then by the room; a written value is laid over the room's first bytes.
 -- Assumes nothing.
-use mathlib.Core.Path.{_≡_, sym, ap, ap₂, _∙_}
+use mathlib.Core.Path.{_≡_, sym, ap₂, _∙_}
 use mathlib.Core.List.{List}
-use mathlib.Core.Option.{some, none}
 use Prim.Native.Nat.{ℕ, _<_, _≤_}
 use borrow.Author.Needs.{needs}
 use borrow.Author.Tests.{lt-ltb, le-ltb}
 use lib.ListN.{length}
 use Rattle.lent.specs.Lent.{over}
-use Rattle.values.specs.Values.{sizeOf, storedAt, storedValue, bytesOf, Writes}
+use Rattle.values.specs.Values.{sizeOf, storedValue, bytesOf, Writes}
 use Rattle.values.specs.declared.Value.{Value}
 use Rattle.values.specs.declared.Fault.the-variants.{ShortBuffer}
 use Rattle.values.specs.declared.Stored.the-variants.{As}
