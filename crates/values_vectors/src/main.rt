@@ -73,6 +73,12 @@ fn say_written(answer: Writing) {
     }
 }
 
+fn write_into(kind: u8, value: Value, bytes: &mut [u8], room: usize) {
+    if room <= bytes.len() {
+        say_written(values::write(kind, value, &mut bytes[0..room]));
+    }
+}
+
 // A value written into the first `room` of ten bytes AA; all ten are shown.
 fn put(kind: u8, value: Value, room: usize) {
     say(b"put ");
@@ -82,12 +88,11 @@ fn put(kind: u8, value: Value, room: usize) {
     say(b" into ");
     say_number(room as u64);
     say(b": ");
-    let mut bytes = [0xaau8; 10];
-    if room <= 10 {
-        say_written(values::write(kind, value, &mut bytes[0..room]));
-    }
+    let mut ten = [0xaau8; 10];
+    let bytes: &mut [u8] = &mut ten;
+    write_into(kind, value, bytes, room);
     say(b" ");
-    say_bytes(&bytes);
+    say_bytes(bytes);
     say(b"\n");
 }
 
@@ -134,6 +139,12 @@ fn load(bytes: &[u8]) {
     say(b"\n");
 }
 
+fn store_into(number: u64, size: usize, bytes: &mut [u8], room: usize) {
+    if room <= bytes.len() {
+        values::store(number, size, &mut bytes[0..room]);
+    }
+}
+
 // The lowest bytes of a number stored into the first `room` of ten bytes AA; all ten are shown.
 fn store(number: u64, size: usize, room: usize) {
     say(b"store ");
@@ -143,11 +154,10 @@ fn store(number: u64, size: usize, room: usize) {
     say(b" into ");
     say_number(room as u64);
     say(b": ");
-    let mut bytes = [0xaau8; 10];
-    if room <= 10 {
-        values::store(number, size, &mut bytes[0..room]);
-    }
-    say_bytes(&bytes);
+    let mut ten = [0xaau8; 10];
+    let bytes: &mut [u8] = &mut ten;
+    store_into(number, size, bytes, room);
+    say_bytes(bytes);
     say(b"\n");
 }
 
