@@ -4,11 +4,10 @@
     tests/vectors/values.py            writes the lines to standard output
     tests/vectors/values.py --check    says whether crates/values_vectors/stdout is those lines
 
-The calls are read, in their order, from crates/values_vectors/src/main.rt; what each must answer comes from the rules
-below, which are 01's "Register values" and rows 40 to 44 in Python's own integers.
+The calls are the lines of crates/values_vectors/stdin, written by hand; what each must answer comes from the rules below,
+which are 01's "Register values" and rows 40 to 44 in Python's own integers.
 """
 import pathlib
-import re
 import sys
 
 crate = pathlib.Path(__file__).resolve().parents[2] / "crates" / "values_vectors"
@@ -18,7 +17,7 @@ KINDS = {1: (1, False), 2: (1, True), 3: (2, False), 4: (2, True), 5: (4, False)
 
 
 def hexed(data):
-    return data.hex() or "-"
+    return data.hex()
 
 
 def can_hold(kind, value):
@@ -72,71 +71,47 @@ def keep(kind, value):
     return no or str(value % 256 ** size)
 
 
-def number(word):
-    return int(word, 0)
-
-
 def text(word):
-    return bytes.fromhex("".join(re.findall(r"\\x(..)", word)))
+    return bytes.fromhex("" if word == "-" else word)
 
 
-def signed(word):
-    sign, n = re.fullmatch(r"(plus|minus)\((\w+)\)", word).groups()
-    return number(n) if sign == "plus" else -(number(n) or 2 ** 64)
+def masked(v, mask):
+    """Bit by bit, as the paper says it: a one in the mask sets, clears or inverts that bit, a zero keeps it."""
+    made = {"set": lambda b: 1, "clear": lambda b: 0, "toggle": lambda b: 1 - b}
+    shown = []
+    for name, of in made.items():
+        bits = [(of(v >> k & 1) if mask >> k & 1 else v >> k & 1) for k in range(64)]
+        shown.append(f"{name} {sum(b << k for k, b in enumerate(bits))}")
+    return " ".join(shown)
 
 
-def answer(call, args):
+def answer(call, *words):
     if call == "get":
-        kind, data, element = number(args[0]), text(args[1]), number(args[2])
-        return f"get {kind} {hexed(data)} at {element}: {read(kind, data, element)}"
-    if call == "put":
-        kind, value, room = number(args[0]), signed(args[1]), number(args[2])
-        return f"put {kind} {value} into {room}: {write(kind, value, room)}"
-    if call == "keep":
-        kind, value = number(args[0]), signed(args[1])
-        return f"keep {kind} {value}: {keep(kind, value)}"
-    if call == "size":
-        kind = number(args[0])
-        return f"size {kind}: {KINDS.get(kind, (0, False))[0]}"
+        return read(int(words[0]), text(words[1]), int(words[2]))
     if call == "load":
-        data = text(args[0])
-        return f"load {hexed(data)}: {int.from_bytes(data[:8], 'little')}"
-    if call == "store":
-        n, size, room = map(number, args)
-        return f"store {n} by {size} into {room}: {hexed(laid((n % 256 ** size).to_bytes(size, 'little'), room))}"
-    if call == "bits":
-        v, mask = map(number, args)
-        # bit by bit, as the paper says it
-        ones = [k for k in range(64) if mask >> k & 1]
-        made = {
-            "set": lambda k: 1,
-            "clear": lambda k: 0,
-            "toggle": lambda k: 1 - (v >> k & 1),
-        }
-        shown = []
-        for name, of in made.items():
-            r = sum((of(k) if k in ones else v >> k & 1) << k for k in range(64))
-            shown.append(f"{name} {r}")
-        return f"bits {v} {mask}: {' '.join(shown)}"
+        return str(int.from_bytes(text(words[0])[:8], "little"))
+    numbers = [int(word) for word in words]
+    if call == "put":
+        return write(*numbers)
+    if call == "keep":
+        return keep(*numbers)
+    if call == "size":
+        return str(KINDS.get(numbers[0], (0, False))[0])
+    if call == "fill":
+        n, size, room = numbers
+        return hexed(laid((n % 256 ** size).to_bytes(size, "little"), room))
+    if call == "mask":
+        return masked(*numbers)
     if call == "bit":
-        v, place = map(number, args)
-        digits = format(v, "064b")[::-1]
-        return f"bit {place} of {v}: {digits[place] if place < 64 else 0}"
+        v, place = numbers
+        return (format(v, "064b")[::-1] + "0" * 192)[place]
     raise SystemExit(f"no such call: {call}")
 
 
-def lines():
-    source = (crate / "src" / "main.rt").read_text()
-    # the vectors are the calls in the functions that stand below the ones that make them
-    vectors = source[source.index("fn from_the_table"):source.index("fn main")]
-    calls = re.findall(r"\b(get|put|keep|size|load|store|bits|bit)\(((?:[^()\"]|\"[^\"]*\"|\(\w+\))*)\)", vectors)
-    for call, inner in calls:
-        yield answer(call, [word.strip() for word in inner.split(",") if word.strip()])
-
-
-out = "".join(line + "\n" for line in lines())
+calls = (crate / "stdin").read_text().splitlines()
+out = "".join(f"{line}: {answer(*line.split())}\n" for line in calls)
 if sys.argv[1:] == ["--check"]:
     same = (crate / "stdout").read_text() == out
-    print("values_vectors: stdout", "is" if same else "is NOT", f"what the paper says ({out.count(chr(10))} lines)")
+    print("values_vectors: stdout", "is" if same else "is NOT", f"what the paper says ({len(calls)} calls)")
     sys.exit(0 if same else 1)
 sys.stdout.write(out)

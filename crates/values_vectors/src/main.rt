@@ -1,6 +1,19 @@
-// Register values, one call a line: what went in, and what came out. The file `stdout` was worked
-// out from the paper by tests/vectors/values.py, which reads the calls of this file and has its own
-// reading of the paper's rules.
+// Register values, one call a line: each line of standard input is written out again, with what
+// the library answers. The file `stdout` was worked out from the paper by tests/vectors/values.py,
+// which has its own reading of the paper's rules.
+//
+//     get KIND BYTES ELEMENT      a value read
+//     put KIND VALUE ROOM         a value written into the first ROOM of ten bytes aa, all ten shown
+//     keep KIND VALUE             the stored form of a value
+//     size KIND
+//     load BYTES
+//     fill NUMBER SIZE ROOM       so many bytes of a number stored into the first ROOM of ten
+//     mask NUMBER MASK            set, cleared and toggled
+//     bit NUMBER PLACE
+ghost use Prim.Native.Nat.{_≤_};
+ghost use lib.ListN.{length};
+ghost use Rattle.io.specs.Counts.{Counts};
+use libc::STDIN_FILENO;
 use libc::STDOUT_FILENO;
 use values::Fault;
 use values::Reading;
@@ -21,9 +34,6 @@ fn say_byte(byte: u8) {
 }
 
 fn say_bytes(bytes: &[u8]) {
-    if bytes.len() == 0 {
-        say(b"-");
-    }
     let mut i = 0;
     while i < bytes.len() {
         say_byte(bytes[i]);
@@ -38,8 +48,6 @@ fn say_value(value: Value) {
             say(b"-");
             if m < u64::MAX {
                 say_number(m + 1);
-            } else {
-                say(b"18446744073709551616");
             }
         }
     }
@@ -50,423 +58,249 @@ fn say_fault(fault: Fault) {
     say_number(values::number(fault) as u64);
 }
 
-// A value read.
-fn get(kind: u8, bytes: &[u8], element: u64) {
-    say(b"get ");
-    say_number(kind as u64);
-    say(b" ");
-    say_bytes(bytes);
-    say(b" at ");
-    say_number(element);
-    say(b": ");
-    match values::read(kind, bytes, element) {
+// Where a line's word starts; the first is word 0.
+fn start_of(line: &[u8], word: usize) -> usize
+    ensures { λ r. ⌜ r ≤ length (now (line .entry)) ⌝ }
+{
+    let mut left = word;
+    let mut i = 0;
+    while i < line.len() {
+        if left == 0 {
+            return i;
+        }
+        if line[i] == b' ' {
+            left -= 1;
+        }
+        i += 1;
+    }
+    i
+}
+
+// The number with one digit more. What is no digit, as a minus, changes nothing.
+fn with_digit(n: u64, c: u8) -> u64 {
+    if c < 48 {
+        return n;
+    }
+    if 57 < c {
+        return n;
+    }
+    let d = (c - 48) as u64;
+    if n <= 1844674407370955160 {
+        return n * 10 + d;
+    }
+    std::num::wrapping_add_u64(18446744073709551610, d)
+}
+
+// The number that a word is; 2^64 is 0.
+fn number(line: &[u8], word: usize) -> u64 {
+    let mut i = start_of(line, word);
+    let mut n: u64 = 0;
+    while i < line.len() {
+        if line[i] == b' ' {
+            return n;
+        }
+        n = with_digit(n, line[i]);
+        i += 1;
+    }
+    n
+}
+
+fn byte_at(line: &[u8], at: usize) -> u8 {
+    if at < line.len() {
+        return line[at];
+    }
+    0
+}
+
+// So many places after another.
+fn byte_after(line: &[u8], from: usize, k: usize) -> u8 {
+    if from < line.len() {
+        if k < line.len() - from {
+            return line[from + k];
+        }
+    }
+    0
+}
+
+fn value(line: &[u8], word: usize) -> Value {
+    let n = number(line, word);
+    if byte_at(line, start_of(line, word)) == b'-' {
+        return Value::Negative(std::num::wrapping_sub_u64(n, 1));
+    }
+    Value::Natural(n)
+}
+
+fn kind(line: &[u8]) -> u8 {
+    (number(line, 1) % 256) as u8
+}
+
+// The value of a digit of sixteen, or 16.
+fn nibble(c: u8) -> u8
+    ensures { λ r. ⌜ r ≤ 16 ⌝ }
+{
+    if c < 48 {
+        return 16;
+    }
+    if c < 58 {
+        return c - 48;
+    }
+    if c < 97 {
+        return 16;
+    }
+    if c < 103 {
+        return c - 87;
+    }
+    16
+}
+
+// Puts the bytes that a word spells into the room and answers how many there are.
+fn bytes(line: &[u8], word: usize, room: &mut [u8]) -> usize
+    ensures { λ r. ⌜ Counts r (now (room .exit)) ⌝ }
+{
+    let from = start_of(line, word);
+    let mut n = 0;
+    while n < room.len() {
+        let high = nibble(byte_after(line, from, n * 2));
+        let low = nibble(byte_after(line, from, n * 2 + 1));
+        if high == 16 {
+            return n;
+        }
+        if low == 16 {
+            return n;
+        }
+        room[n] = high * 16 + low;
+        n += 1;
+    }
+    n
+}
+
+fn get(line: &[u8]) {
+    let mut space = [0u8; 32];
+    let n = bytes(line, 2, &mut space);
+    match values::read(kind(line), &space[..n], number(line, 3)) {
         Reading::Is(value) => say_value(value),
         Reading::Refused(fault) => say_fault(fault),
     }
-    say(b"\n");
 }
 
 fn say_written(answer: Writing) {
     match answer {
-        Writing::Done => say(b"ok"),
-        Writing::Refused(fault) => say_fault(fault),
+        Writing::Done => say(b"ok "),
+        Writing::Refused(fault) => {
+            say_fault(fault);
+            say(b" ");
+        }
     }
 }
 
-fn write_into(kind: u8, value: Value, bytes: &mut [u8], room: usize) {
-    if room <= bytes.len() {
-        say_written(values::write(kind, value, &mut bytes[0..room]));
+fn put_into(line: &[u8], ten: &mut [u8]) {
+    let n = number(line, 3) as usize;
+    if n <= ten.len() {
+        say_written(values::write(kind(line), value(line, 2), &mut ten[0..n]));
     }
 }
 
-// A value written into the first `room` of ten bytes AA; all ten are shown.
-fn put(kind: u8, value: Value, room: usize) {
-    say(b"put ");
-    say_number(kind as u64);
-    say(b" ");
-    say_value(value);
-    say(b" into ");
-    say_number(room as u64);
-    say(b": ");
-    let mut ten = [0xaau8; 10];
-    let bytes: &mut [u8] = &mut ten;
-    write_into(kind, value, bytes, room);
-    say(b" ");
-    say_bytes(bytes);
-    say(b"\n");
+fn put(line: &[u8]) {
+    let mut space = [0xaau8; 10];
+    let ten: &mut [u8] = &mut space;
+    put_into(line, ten);
+    say_bytes(ten);
 }
 
-fn plus(n: u64) -> Value {
-    Value::Natural(n)
-}
-
-// The number n below 0, of which there is none for n = 0; 2^64 is asked for by n = 0.
-fn minus(n: u64) -> Value {
-    if n == 0 {
-        Value::Negative(u64::MAX)
-    } else {
-        Value::Negative(n - 1)
-    }
-}
-
-// The stored form of a value.
-fn keep(kind: u8, value: Value) {
-    say(b"keep ");
-    say_number(kind as u64);
-    say(b" ");
-    say_value(value);
-    say(b": ");
-    match values::as_stored(kind, value) {
+fn keep(line: &[u8]) {
+    match values::as_stored(kind(line), value(line, 2)) {
         Stored::As(number) => say_number(number),
         Stored::Refused(fault) => say_fault(fault),
     }
-    say(b"\n");
 }
 
-fn size(kind: u8) {
-    say(b"size ");
-    say_number(kind as u64);
-    say(b": ");
-    say_number(values::size(kind) as u64);
-    say(b"\n");
+fn size(line: &[u8]) {
+    say_number(values::size(kind(line)) as u64);
 }
 
-fn load(bytes: &[u8]) {
-    say(b"load ");
-    say_bytes(bytes);
-    say(b": ");
-    say_number(values::load(bytes));
-    say(b"\n");
+fn load(line: &[u8]) {
+    let mut space = [0u8; 32];
+    let n = bytes(line, 1, &mut space);
+    say_number(values::load(&space[..n]));
 }
 
-fn store_into(number: u64, size: usize, bytes: &mut [u8], room: usize) {
-    if room <= bytes.len() {
-        values::store(number, size, &mut bytes[0..room]);
+fn fill_in(line: &[u8], ten: &mut [u8]) {
+    let n = number(line, 3) as usize;
+    if n <= ten.len() {
+        values::store(number(line, 1), number(line, 2) as usize, &mut ten[0..n]);
     }
 }
 
-// The lowest bytes of a number stored into the first `room` of ten bytes AA; all ten are shown.
-fn store(number: u64, size: usize, room: usize) {
-    say(b"store ");
-    say_number(number);
-    say(b" by ");
-    say_number(size as u64);
-    say(b" into ");
-    say_number(room as u64);
-    say(b": ");
-    let mut ten = [0xaau8; 10];
-    let bytes: &mut [u8] = &mut ten;
-    store_into(number, size, bytes, room);
-    say_bytes(bytes);
-    say(b"\n");
+fn fill(line: &[u8]) {
+    let mut space = [0xaau8; 10];
+    let ten: &mut [u8] = &mut space;
+    fill_in(line, ten);
+    say_bytes(ten);
 }
 
-fn bits(v: u64, mask: u64) {
-    say(b"bits ");
-    say_number(v);
-    say(b" ");
-    say_number(mask);
-    say(b": set ");
-    say_number(values::set_bits(v, mask));
+fn mask(line: &[u8]) {
+    let v = number(line, 1);
+    let ones = number(line, 2);
+    say(b"set ");
+    say_number(values::set_bits(v, ones));
     say(b" clear ");
-    say_number(values::clear_bits(v, mask));
+    say_number(values::clear_bits(v, ones));
     say(b" toggle ");
-    say_number(values::toggle_bits(v, mask));
-    say(b"\n");
+    say_number(values::toggle_bits(v, ones));
 }
 
-fn bit(v: u64, place: u8) {
-    say(b"bit ");
-    say_number(place as u64);
-    say(b" of ");
-    say_number(v);
-    if values::bit(v, place) {
-        say(b": 1\n");
+fn bit(line: &[u8]) {
+    let place = (number(line, 2) % 256) as u8;
+    if values::bit(number(line, 1), place) {
+        say(b"1");
     } else {
-        say(b": 0\n");
+        say(b"0");
     }
 }
 
-// T9, T10 and T12.
-fn from_the_table() {
-    get(4, b"\x00\x80", 0);
-    get(3, b"\x5e\x91", 0);
-    bits(0x0401, 0x0400);
+// The first letter tells the call.
+fn answer(line: &[u8]) {
+    say(line);
+    say(b": ");
+    match byte_at(line, 0) {
+        b'g' => get(line),
+        b'p' => put(line),
+        b'k' => keep(line),
+        b's' => size(line),
+        b'l' => load(line),
+        b'f' => fill(line),
+        b'm' => mask(line),
+        b'b' => bit(line),
+        _ => say(b"no such call"),
+    }
+    say(b"\n");
 }
 
-// Each kind's least and greatest value, and the numbers next to the sign bit.
-fn ends_read() {
-    get(1, b"\x00", 0);
-    get(1, b"\xff", 0);
-    get(2, b"\x80", 0);
-    get(2, b"\xff", 0);
-    get(2, b"\x7f", 0);
-    get(3, b"\x00\x00", 0);
-    get(3, b"\xff\xff", 0);
-    get(4, b"\x00\x80", 0);
-    get(4, b"\xff\xff", 0);
-    get(4, b"\xff\x7f", 0);
+fn line_end(text: &[u8], from: usize) -> usize
+    requires { ⌜ from ≤ length (now text) ⌝ }
+    ensures { λ r. ⌜ (from ≤ r) × (r ≤ length (now (text .entry))) ⌝ }
+{
+    let mut i = from;
+    while i < text.len() {
+        if text[i] == b'\n' {
+            return i;
+        }
+        i += 1;
+    }
+    i
 }
 
-fn wide_ends_read() {
-    get(5, b"\x00\x00\x00\x00", 0);
-    get(5, b"\xff\xff\xff\xff", 0);
-    get(6, b"\x00\x00\x00\x80", 0);
-    get(6, b"\xff\xff\xff\xff", 0);
-    get(6, b"\xff\xff\xff\x7f", 0);
-    get(7, b"\x00\x00\x00\x00\x00\x00\x00\x00", 0);
-    get(7, b"\xff\xff\xff\xff\xff\xff\xff\xff", 0);
-    get(7, b"\x00\x00\x00\x00\x00\x00\x00\x80", 0);
-    get(5, b"\x04\x03\x02\x01", 0);
-    get(7, b"\x08\x07\x06\x05\x04\x03\x02\x01", 0);
-}
-
-// All elements of arrays, one too far, and far too far.
-fn elements_of_one() {
-    get(1, b"\x01\x80\xff", 0);
-    get(1, b"\x01\x80\xff", 1);
-    get(1, b"\x01\x80\xff", 2);
-    get(1, b"\x01\x80\xff", 3);
-    get(2, b"\x01\x80\xff", 0);
-    get(2, b"\x01\x80\xff", 1);
-    get(2, b"\x01\x80\xff", 2);
-    get(2, b"\x01\x80\xff", 3);
-    get(1, b"\x01\x80\xff", 9223372036854775808);
-    get(1, b"\x01\x80\xff", 18446744073709551615);
-}
-
-fn elements_of_two() {
-    get(3, b"\x01\x00\x00\x80\xfe\xff", 0);
-    get(3, b"\x01\x00\x00\x80\xfe\xff", 1);
-    get(3, b"\x01\x00\x00\x80\xfe\xff", 2);
-    get(3, b"\x01\x00\x00\x80\xfe\xff", 3);
-    get(4, b"\x01\x00\x00\x80\xfe\xff", 0);
-    get(4, b"\x01\x00\x00\x80\xfe\xff", 1);
-    get(4, b"\x01\x00\x00\x80\xfe\xff", 2);
-    get(4, b"\x01\x00\x00\x80\xfe\xff", 3);
-    get(3, b"\x01\x00\x00\x80\xfe\xff", 9223372036854775808);
-    get(4, b"\x01\x00\x00\x80\xfe\xff", 18446744073709551615);
-}
-
-fn elements_of_four() {
-    get(5, b"\x01\x00\x00\x00\x00\x00\x00\x80", 0);
-    get(5, b"\x01\x00\x00\x00\x00\x00\x00\x80", 1);
-    get(5, b"\x01\x00\x00\x00\x00\x00\x00\x80", 2);
-    get(6, b"\x01\x00\x00\x00\x00\x00\x00\x80", 0);
-    get(6, b"\x01\x00\x00\x00\x00\x00\x00\x80", 1);
-    get(6, b"\x01\x00\x00\x00\x00\x00\x00\x80", 2);
-    get(5, b"\x01\x00\x00\x00\x00\x00\x00\x80", 4611686018427387904);
-    get(6, b"\x01\x00\x00\x00\x00\x00\x00\x80", 18446744073709551615);
-}
-
-fn elements_of_eight() {
-    get(
-        7,
-        b"\x01\x02\x03\x04\x05\x06\x07\x08\xff\xfe\xfd\xfc\xfb\xfa\xf9\xf8",
-        0,
-    );
-    get(
-        7,
-        b"\x01\x02\x03\x04\x05\x06\x07\x08\xff\xfe\xfd\xfc\xfb\xfa\xf9\xf8",
-        1,
-    );
-    get(
-        7,
-        b"\x01\x02\x03\x04\x05\x06\x07\x08\xff\xfe\xfd\xfc\xfb\xfa\xf9\xf8",
-        2,
-    );
-    get(
-        7,
-        b"\x01\x02\x03\x04\x05\x06\x07\x08\xff\xfe\xfd\xfc\xfb\xfa\xf9\xf8",
-        2305843009213693952,
-    );
-    get(
-        7,
-        b"\x01\x02\x03\x04\x05\x06\x07\x08\xff\xfe\xfd\xfc\xfb\xfa\xf9\xf8",
-        18446744073709551615,
-    );
-}
-
-// 40, 41 and 42, on both sides of each, and the lowest where several apply.
-fn reads_refused() {
-    get(0, b"\x01", 0);
-    get(8, b"\x01", 0);
-    get(255, b"\x01", 0);
-    get(0, b"", 7);
-    get(8, b"", 7);
-    get(1, b"", 0);
-    get(7, b"", 7);
-    get(3, b"\x01", 0);
-    get(3, b"\x01\x02\x03", 0);
-    get(3, b"\x01\x02\x03", 5);
-    get(4, b"\x01\x02\x03\x04\x05", 1);
-    get(5, b"\x01\x02", 0);
-    get(6, b"\x01\x02\x03\x04\x05", 0);
-}
-
-fn long_reads_refused() {
-    get(5, b"\x01\x02\x03\x04\x05\x06\x07", 1);
-    get(7, b"\x01\x02\x03\x04\x05\x06\x07", 0);
-    get(7, b"\x01\x02\x03\x04\x05\x06\x07\x08", 0);
-    get(7, b"\x01\x02\x03\x04\x05\x06\x07\x08\x09", 0);
-    get(7, b"\x01\x02\x03\x04\x05\x06\x07\x08", 1);
-    get(1, b"\x01", 0);
-    get(1, b"\x01", 1);
-}
-
-// Each kind's ends and one past each.
-fn small_ends_written() {
-    put(1, plus(0), 1);
-    put(1, plus(255), 1);
-    put(1, plus(256), 1);
-    put(1, minus(1), 1);
-    put(2, minus(128), 1);
-    put(2, minus(129), 1);
-    put(2, minus(1), 1);
-    put(2, plus(0), 1);
-    put(2, plus(127), 1);
-    put(2, plus(128), 1);
-}
-
-fn middle_ends_written() {
-    put(3, plus(0), 2);
-    put(3, plus(65535), 2);
-    put(3, plus(65536), 2);
-    put(3, minus(1), 2);
-    put(4, minus(32768), 2);
-    put(4, minus(32769), 2);
-    put(4, minus(2), 2);
-    put(4, plus(32767), 2);
-    put(4, plus(32768), 2);
-    put(3, plus(0x915e), 2);
-}
-
-fn wide_ends_written() {
-    put(5, plus(4294967295), 4);
-    put(5, plus(4294967296), 4);
-    put(5, minus(1), 4);
-    put(6, minus(2147483648), 4);
-    put(6, minus(2147483649), 4);
-    put(6, plus(2147483647), 4);
-    put(6, plus(2147483648), 4);
-    put(7, plus(18446744073709551615), 8);
-    put(7, plus(0x0102030405060708), 8);
-    put(7, minus(1), 8);
-    put(7, minus(9223372036854775808), 8);
-    put(6, minus(9223372036854775808), 4);
-    put(6, minus(0), 4);
-}
-
-// 40, 43 and 44, on both sides of each, and the lowest where several apply; buffers of the kind's
-// size, one less, one more, and of no multiple.
-fn writes_refused() {
-    put(0, plus(1), 1);
-    put(8, plus(1), 8);
-    put(0, plus(256), 0);
-    put(255, minus(1), 0);
-    put(1, plus(256), 0);
-    put(1, plus(255), 0);
-    put(1, plus(255), 1);
-    put(1, plus(255), 2);
-    put(4, minus(1), 1);
-    put(4, minus(1), 2);
-    put(4, minus(1), 3);
-    put(4, plus(40000), 1);
-}
-
-fn long_writes_refused() {
-    put(5, plus(1), 3);
-    put(5, plus(1), 4);
-    put(5, plus(1), 5);
-    put(6, minus(1), 3);
-    put(6, minus(1), 7);
-    put(7, plus(1), 7);
-    put(7, plus(1), 8);
-    put(7, plus(1), 9);
-    put(7, plus(18446744073709551615), 10);
-}
-
-fn stored_forms() {
-    keep(1, plus(200));
-    keep(2, minus(1));
-    keep(4, minus(32768));
-    keep(6, minus(1));
-    keep(7, plus(18446744073709551615));
-    keep(2, plus(128));
-    keep(7, minus(1));
-    keep(0, plus(1));
-    keep(8, minus(0));
-}
-
-fn sizes() {
-    size(0);
-    size(1);
-    size(2);
-    size(3);
-    size(4);
-    size(5);
-    size(6);
-    size(7);
-    size(8);
-    size(255);
-}
-
-fn loads_and_stores() {
-    load(b"");
-    load(b"\x05");
-    load(b"\x01\x02\x03");
-    load(b"\xff\xff\xff\xff\xff\xff\xff\xff");
-    load(b"\x01\x00\x00\x00\x00\x00\x00\x00\xff");
-    store(0x0102030405060708, 8, 10);
-    store(0x0102030405060708, 4, 10);
-    store(0x0102030405060708, 8, 3);
-    store(0x0102030405060708, 0, 10);
-    store(0x0102030405060708, 10, 10);
-    store(0x0102030405060708, 2, 0);
-}
-
-// A one in the mask sets, clears or inverts that bit, a zero keeps it.
-fn bit_writes() {
-    bits(0, 0);
-    bits(0, 18446744073709551615);
-    bits(18446744073709551615, 0);
-    bits(18446744073709551615, 18446744073709551615);
-    bits(0x80, 0x80);
-    bits(0x7f, 0x80);
-    bits(0x0f0f, 0x00ff);
-    bits(0x8000000000000000, 0x8000000000000001);
-    bits(0x1234567890abcdef, 0xff00ff00ff00ff00);
-}
-
-fn bits_tested() {
-    bit(0x0401, 0);
-    bit(0x0401, 1);
-    bit(0x0401, 10);
-    bit(0x8000000000000000, 62);
-    bit(0x8000000000000000, 63);
-    bit(0x7fffffffffffffff, 63);
-    bit(18446744073709551615, 64);
-    bit(18446744073709551615, 255);
+fn answer_all(text: &[u8]) {
+    let mut at = 0;
+    while at < text.len() {
+        let end = line_end(text, at);
+        answer(&text[at..end]);
+        at = end + 1;
+    }
 }
 
 fn main() {
-    from_the_table();
-    ends_read();
-    wide_ends_read();
-    elements_of_one();
-    elements_of_two();
-    elements_of_four();
-    elements_of_eight();
-    reads_refused();
-    long_reads_refused();
-    small_ends_written();
-    middle_ends_written();
-    wide_ends_written();
-    writes_refused();
-    long_writes_refused();
-    stored_forms();
-    sizes();
-    loads_and_stores();
-    bit_writes();
-    bits_tested();
+    let mut buffer = io::large_buffer();
+    let n = io::read_full(STDIN_FILENO, &mut buffer);
+    answer_all(&buffer[..n]);
 }
