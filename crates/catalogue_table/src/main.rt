@@ -6,7 +6,7 @@
 //
 // A line is written for each pair that differs, and one for all. The file `stdout` was written by
 // hand: the paper has 28 rows.
-ghost use Prim.Native.Nat.{_<_, _≤_};
+ghost use Prim.Native.Nat.{_<_};
 use catalogue::Entry;
 use catalogue::Found;
 use libc::STDOUT_FILENO;

@@ -47,6 +47,16 @@ fits-exactly signed n value p = (there, back)
         let under : natural (h .bytes) < 2 ^ (8 * n) = rw (h .many) at (natural-lt (h .bytes) (h .each)) in
         subst (Holds signed n) (h .mean) (value-back signed n (natural (h .bytes)) p under .0)
 
+-- so a kind takes a value exactly where bytes of its size have that value
+pub kept-exactly : (kind : ℕ) (value : Value) → isKind kind ≡ true → (storedRefusal kind value ≡ none) ↔ Held (isSigned kind) (sizeOf kind) value
+kept-exactly kind value k = (
+  λ e. exactly .0 (decides-fits kind value .so (stored-none kind value e .1)),
+  λ h. stored-so kind value k (exactly .1 h),
+)
+  where
+    exactly : Holds (isSigned kind) (sizeOf kind) value ↔ Held (isSigned kind) (sizeOf kind) value
+    exactly = fits-exactly (isSigned kind) (sizeOf kind) value (kind-positive kind k)
+
 -- ---- "Lowest byte first; signed kinds are two's complement."
 
 pub integer-unsigned : (n v : ℕ) → integer (valueAt false n v) ≡ pos v

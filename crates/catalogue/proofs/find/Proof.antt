@@ -73,7 +73,10 @@ row-at-requires c κs = search needs
 
 returns : tie.Need-returns Inv-loop μ-loop
 returns c =
-    found _ _ _ _ (c .before .before .before .before .row-at .ensures) (c .before .before .before .before .before .loop-test .taken) (c .before .before .before .before .before .before .loop .inv .1) (c .before .before .if1 .taken) (c .if2 .taken)
+    let got = c .before .before .before .before in
+    let turn = got .before .before .loop in
+    let under : turn .at < 28 = omega arith in
+    found _ _ _ _ (got .row-at .ensures) under (turn .inv .1) (c .before .before .if1 .taken) (c .if2 .taken)
 
 add-at : tie.Need-add-at Inv-loop μ-loop
 add-at c = search needs
@@ -83,9 +86,12 @@ loop-less c = search needs
 
 loop-again : tie.Need-loop-again Inv-loop μ-loop
 loop-again c =
+    let got = c .before .before in
+    let turn = got .before .before .loop in
+    let under : turn .at < 28 = omega arith in
     ⊎-elim
-    (λ w. passed-register _ _ _ _ (c .before .before .row-at .ensures) (c .before .before .before .loop-test .taken) (c .before .before .before .before .loop .inv .1) (w .0 .taken) (w .2 .left))
-    (λ w. passed-model _ _ _ _ (c .before .before .row-at .ensures) (c .before .before .before .loop-test .taken) (c .before .before .before .before .loop .inv .1) (w .left))
+    (λ w. passed-register _ _ _ _ (got .row-at .ensures) under (turn .inv .1) (w .0 .taken) (w .2 .left))
+    (λ w. passed-model _ _ _ _ (got .row-at .ensures) under (turn .inv .1) (w .left))
     (c .if1 .came)
 
 returns-2 : tie.Need-returns-2 Inv-loop μ-loop

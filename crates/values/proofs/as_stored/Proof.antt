@@ -80,7 +80,9 @@ enum-known-value c = search needs
 
 returns-2 : tie.Need-returns-2
 returns-2 c =
-    natural-kept _ _ _ _ (c .before .before .before .before .before .before .size .ensures) (c .before .before .before .before .before .if1 .left) (c .before .before .before .before .highest .ensures) _ (c .before .before .value .given .1) (c .if2 .taken)
+    let top = c .before .before .before .before in
+    natural-kept _ _ _ _ (top .before .before .size .ensures) (top .before .if1 .left) (top .highest .ensures) _
+    (c .before .before .value .given .1) (c .if2 .taken)
 
 enum-known-value-2 : tie.Need-enum-known-value-2
 enum-known-value-2 c = search needs
@@ -88,35 +90,45 @@ enum-known-value-2 c = search needs
 signed-requires : tie.Need-signed-requires
 signed-requires c κs = search needs
 
+-- where a negative number is taken, its kind is signed and the sum stays within 64 bits
+low : (c : tie.Then4) → c .before .before .before .before .before .before .highest .result < 2 ^ 63
+low c =
+    let negative = c .before .before .before .before in
+    let top = negative .before .before in
+    mirrored _ (top .before .before .before .args .value) _ _ (top .before .before .size .ensures) (top .before .if1 .left) (top .highest .ensures) _
+    (sym (c .before .before .signed .ensures) ∙ c .before .if3 .taken) (c .if4 .taken) .1
+
 add-t12 : tie.Need-add-t12
-add-t12 c =
-    let low : c .before .before .before .before .before .before .highest .result < 2 ^ 63 =
-    mirrored _ (c .before .before .before .before .before .before .before .before .before .args .value) _ _ (c .before .before .before .before .before .before .before .before .size .ensures) (c .before .before .before .before .before .before .before .if1 .left) (c .before .before .before .before .before .before .highest .ensures) _ (sym (c .before .before .signed .ensures) ∙ c .before .if3 .taken) (c .if4 .taken) .1 in
-    omega arith
+add-t12 c = omega (arith, low c)
 
 add-t14 : tie.Need-add-t14
-add-t14 c =
-    let low : c .before .before .before .before .before .before .highest .result < 2 ^ 63 =
-    mirrored _ (c .before .before .before .before .before .before .before .before .before .args .value) _ _ (c .before .before .before .before .before .before .before .before .size .ensures) (c .before .before .before .before .before .before .before .if1 .left) (c .before .before .before .before .before .before .highest .ensures) _ (sym (c .before .before .signed .ensures) ∙ c .before .if3 .taken) (c .if4 .taken) .1 in
-    omega arith
+add-t14 c = omega (arith, low c)
 
 returns-3 : tie.Need-returns-3
 returns-3 c =
-    negative-kept _ _ _ _ (c .before .before .before .before .before .before .before .before .size .ensures) (c .before .before .before .before .before .before .before .if1 .left) (c .before .before .before .before .before .before .highest .ensures) _ (c .before .before .before .before .value2 .given .1)
+    let negative = c .before .before .before .before in
+    let top = negative .before .before in
+    negative-kept _ _ _ _ (top .before .before .size .ensures) (top .before .if1 .left) (top .highest .ensures) _ (negative .value2 .given .1)
     (sym (c .before .before .signed .ensures) ∙ c .before .if3 .taken) (c .if4 .taken)
 
 returns-4 : tie.Need-returns-4
 returns-4 c =
-    natural-unfit _ _ _ _ (c .before .before .before .before .before .before .size .ensures) (c .before .before .before .before .before .if1 .left) (c .before .before .before .before .highest .ensures) _ (c .before .before .value .given .1) (c .if2 .left)
+    let top = c .before .before .before .before in
+    natural-unfit _ _ _ _ (top .before .before .size .ensures) (top .before .if1 .left) (top .highest .ensures) _
+    (c .before .before .value .given .1) (c .if2 .left)
 
 returns-5 : tie.Need-returns-5
 returns-5 c =
-    negative-unfit _ _ _ _ (c .before .before .before .before .before .before .before .before .size .ensures) (c .before .before .before .before .before .before .before .if1 .left) (c .before .before .before .before .before .before .highest .ensures) _ (c .before .before .before .before .value2 .given .1)
+    let negative = c .before .before .before .before in
+    let top = negative .before .before in
+    negative-unfit _ _ _ _ (top .before .before .size .ensures) (top .before .if1 .left) (top .highest .ensures) _ (negative .value2 .given .1)
     (sym (c .before .before .signed .ensures) ∙ c .before .if3 .taken) (c .if4 .left)
 
 returns-6 : tie.Need-returns-6
 returns-6 c =
-    unsigned-unfit _ _ _ _ (c .before .before .before .before .before .before .before .size .ensures) (c .before .before .before .before .before .before .if1 .left) (c .before .before .before .before .before .highest .ensures) _ (c .before .before .before .value2 .given .1)
+    let negative = c .before .before .before in
+    let top = negative .before .before in
+    unsigned-unfit _ _ _ _ (top .before .before .size .ensures) (top .before .if1 .left) (top .highest .ensures) _ (negative .value2 .given .1)
     (sym (c .before .signed .ensures) ∙ c .if3 .left)
 
 pub as-stored-spec : {M : Type 1} → statement M

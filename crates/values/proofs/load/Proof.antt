@@ -41,14 +41,14 @@ loop-holds c =
 sub-left : tie.Need-sub-left Inv-loop μ-loop
 sub-left c = search needs
 
+-- in a turn there is room for one byte more
+low : (c : tie.In-loop Inv-loop μ-loop) → c .before .loop .value < 2 ^ 56
+low c =
+    let start = c .before .before .before in
+    room (start .before .args .bytes .now) _ _ (λ i. start .shared-slice-known .given i .fits) (c .loop-test .taken) (c .before .loop .inv .1)
+
 mul-value : tie.Need-mul-value Inv-loop μ-loop
-mul-value c =
-    omega (
-      arith,
-      room (c .before .before .before .before .before .args .bytes .now) (c .before .before .loop .left) (c .before .before .loop .value)
-          (λ i. c .before .before .before .before .shared-slice-known .given i .fits)
-          (c .before .loop-test .taken) (c .before .before .loop .inv .1),
-    )
+mul-value c = omega (arith, low (c .before))
 
 shared-slice-read-wide : tie.Need-shared-slice-read-wide Inv-loop μ-loop
 shared-slice-read-wide c = omega (arith, length-take 8 (c .before .before .before .before .before .before .args .bytes .now))
@@ -58,25 +58,19 @@ wide-requires c κs = search needs
 
 add-value : tie.Need-add-value Inv-loop μ-loop
 add-value c =
-    omega (
-      arith,
-      room (c .before .before .before .before .before .before .before .args .bytes .now) (c .before .before .before .before .loop .left)
-          (c .before .before .before .before .loop .value)
-          (λ i. c .before .before .before .before .before .before .shared-slice-known .given i .fits)
-          (c .before .before .before .loop-test .taken) (c .before .before .before .before .loop .inv .1),
-      c .wide .ensures,
-      c .before .shared-slice-known2 .given (c .before .before .before .before .loop .left - 1),
-    )
+    let turn = c .before .before .before in
+    omega (arith, low turn, c .wide .ensures, c .before .shared-slice-known2 .given (turn .before .loop .left - 1))
 
 loop-less : tie.Need-loop-less Inv-loop μ-loop
 loop-less c = search needs
 
 loop-again : tie.Need-loop-again Inv-loop μ-loop
-loop-again c = (
-  omega arith,
-  step (c .before .before .before .before .before .before .before .args .bytes .now) _ _ _ (c .before .before .before .loop-test .taken) (c .before .before .before .before .loop .inv .0) (c .wide .ensures)
-      (c .before .before .before .before .loop .inv .1),
-)
+loop-again c =
+    let turn = c .before .before .before in (
+      omega arith,
+      step (turn .before .before .before .before .args .bytes .now) _ _ _ (turn .loop-test .taken) (turn .before .loop .inv .0) (c .wide .ensures)
+          (turn .before .loop .inv .1),
+    )
 
 returns : tie.Need-returns Inv-loop μ-loop
 returns c =

@@ -75,8 +75,8 @@ part bytes n k loaded h e =
     let many : k * n + n - k * n ≡ n = omega arith in
     e ∙ rw (many, take-all 8 (take n (drop (k * n) bytes)) (omega (arith, length-take n (drop (k * n) bytes))))
 
-few : (kind n : ℕ) → n ≡ sizeOf kind → (n ≡ 0 → ⊥) → n ≤ 8
-few kind n size some = omega (arith, size-le kind (omega arith))
+few-bytes : (kind n : ℕ) → n ≡ sizeOf kind → (n ≡ 0 → ⊥) → n ≤ 8
+few-bytes kind n size some = omega (arith, size-le kind (omega arith))
 
 size-requires : tie.Need-size-requires
 size-requires c κs = search needs
@@ -97,13 +97,20 @@ div-if4 : tie.Need-div-if4
 div-if4 c = search needs
 
 returns-4 : tie.Need-returns-4
-returns-4 c = past _ _ _ _ (c .before .before .before .before .size .ensures) (c .before .before .before .if1 .left) (c .before .before .if2 .left) (c .before .if3 .left) (c .if4 .taken)
+returns-4 c =
+    let known = c .before .before .before in
+    past _ _ _ _ (known .before .size .ensures) (known .if1 .left) (c .before .before .if2 .left) (c .before .if3 .left) (c .if4 .taken)
+
+-- past the tests, the element lies within the bytes
+whole : (c : tie.Else4) → c .before .before .before .before .before .before .args .element * c .before .before .before .before .size .result
+    + c .before .before .before .before .size .result ≤ length (c .before .before .before .before .before .before .args .bytes .now)
+whole c = inside _ _ _ (c .before .before .before .if1 .left) (c .if4 .left)
 
 mul-at : tie.Need-mul-at
-mul-at c = omega (arith, inside _ _ _ (c .before .before .before .if1 .left) (c .if4 .left))
+mul-at c = omega (arith, whole c)
 
 add-load : tie.Need-add-load
-add-load c = omega (arith, inside _ _ _ (c .before .before .before .if1 .left) (c .if4 .left))
+add-load c = omega (arith, whole c)
 
 sub-load : tie.Need-sub-load
 sub-load c = search needs
@@ -112,7 +119,7 @@ part-load-start : tie.Need-part-load-start
 part-load-start c = search needs
 
 part-load-end : tie.Need-part-load-end
-part-load-end c = inside _ _ _ (c .before .before .before .if1 .left) (c .if4 .left)
+part-load-end c = whole c
 
 load-requires : tie.Need-load-requires
 load-requires c κs = search needs
@@ -120,22 +127,35 @@ load-requires c κs = search needs
 signed-requires : tie.Need-signed-requires
 signed-requires c κs = search needs
 
+-- what was loaded is the number of the element's bytes
+at-load : (c : tie.After-load)
+    → (c .before .before .before .before .before .before .size .result ≤ 8)
+    × (c .load .result ≡ natural (elementOf (c .before .before .before .before .before .before .size .result)
+    (c .before .before .before .before .before .before .before .before .args .bytes .now)
+    (c .before .before .before .before .before .before .before .before .args .element)))
+at-load c =
+    let known = c .before .before .before .before .before in
+    let start = known .before .before .before in
+    let few : known .before .size .result ≤ 8 = few-bytes _ _ (known .before .size .ensures) (known .if1 .left) in
+    (few, part (start .args .bytes .now) _ (start .args .element) _ few (c .load .ensures))
+
 value-at-requires : tie.Need-value-at-requires
 value-at-requires c κs =
-    let n : c .before .before .before .before .before .before .before .size .result ≤ 8 = few _ _ (c .before .before .before .before .before .before .before .size .ensures) (c .before .before .before .before .before .before .if1 .left) in (
+    let loaded = at-load (c .before) in
+    let known = c .before .before .before .before .before .before in (
       omega arith,
-      n,
-      rw (part (c .before .before .before .before .before .before .before .before .before .args .bytes .now) _ (c .before .before .before .before .before .before .before .before .before .args .element) _ n (c .before .load .ensures))
-          (element-lt _ _ _ (λ i. c .before .before .before .before .before .before .before .before .shared-slice-known .given i .fits) (inside _ _ _ (c .before .before .before .before .before .before .if1 .left) (c .before .before .before .if4 .left))),
+      loaded .0,
+      rw (loaded .1)
+          (element-lt _ _ _ (λ i. known .before .before .shared-slice-known .given i .fits) (whole (c .before .before .before))),
     )
 
 returns-5 : tie.Need-returns-5
 returns-5 c =
-    let n : c .before .before .before .before .before .before .before .before .size .result ≤ 8 = few _ _ (c .before .before .before .before .before .before .before .before .size .ensures) (c .before .before .before .before .before .before .before .if1 .left) in
-    found _ _ _ _ (c .before .before .before .before .before .before .before .before .size .ensures) (c .before .before .before .before .before .before .before .if1 .left) (c .before .before .before .before .before .before .if2 .left) (c .before .before .before .before .before .if3 .left) (c .before .before .before .before .if4 .left) _
+    let tested = c .before .before .before .before in
+    let known = tested .before .before .before in
+    found _ _ _ _ (known .before .size .ensures) (known .if1 .left) (tested .before .before .if2 .left) (tested .before .if3 .left) (tested .if4 .left) _
     (c .value-at .ensures
-    ∙ ap₂ (λ (b : Bool) (v : ℕ). valueAt b (c .before .before .before .before .before .before .before .before .size .result) v) (c .before .signed .ensures)
-    (part (c .before .before .before .before .before .before .before .before .before .before .args .bytes .now) _ (c .before .before .before .before .before .before .before .before .before .before .args .element) _ n (c .before .before .load .ensures)))
+    ∙ ap₂ (λ (b : Bool) (v : ℕ). valueAt b (known .before .size .result) v) (c .before .signed .ensures) (at-load (c .before .before) .1))
 
 pub read-spec : {M : Type 1} → statement M
 read-spec =

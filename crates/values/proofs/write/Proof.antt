@@ -43,21 +43,28 @@ size-requires : tie.Need-size-requires
 size-requires c κs = search needs
 
 returns : tie.Need-returns
-returns c = short _ _ _ _ _ (sym (c .before .before .before .before .before .as-stored .ensures) ∙ c .before .before .before .number .given .1) (c .before .size .ensures) (c .if1 .taken)
+returns c =
+    let known = c .before .before .before in
+    short _ _ _ _ _ (sym (known .before .before .as-stored .ensures) ∙ known .number .given .1) (c .before .size .ensures) (c .if1 .taken)
 
 store-requires : tie.Need-store-requires
 store-requires c κs = search needs
 
 returns-2 : tie.Need-returns-2
 returns-2 c =
-    write-refused _ _ _ _ (write-refused-so _ _ _ _ (stored-refused _ _ _ (sym (c .before .before .before .as-stored .ensures) ∙ c .before .fault .given .1)))
+    let known = c .before in
+    write-refused _ _ _ _
+    (write-refused-so _ _ _ _ (stored-refused _ _ _ (sym (known .before .before .as-stored .ensures) ∙ known .fault .given .1)))
 
 same-length : tie.Need-same-length
 same-length c = search needs
 
 returns-3 : tie.Need-returns-3
 returns-3 c =
-    laid _ _ _ _ _ (sym (c .before .before .before .before .before .before .before .before .before .as-stored .ensures) ∙ c .before .before .before .before .before .before .before .number .given .1) (c .before .before .before .before .before .size .ensures) _ (c .before .before .before .before .if1 .left) (c .before .before .store .ensures)
+    let roomy = c .before .before .before .before in
+    let known = roomy .before .before .before in
+    laid _ _ _ _ _ (sym (known .before .before .as-stored .ensures) ∙ known .number .given .1) (roomy .before .size .ensures) _ (roomy .if1 .left)
+    (c .before .before .store .ensures)
 
 pub write-spec : {M : Type 1} → statement M
 write-spec =
