@@ -4,7 +4,7 @@ use mathlib.Core.Path.{_≡_, refl, sym, ap, _∙_}
 use mathlib.Core.Bool.{Bool, true, false, cond, not, _&&_, _||_, true≢false}
 use mathlib.Core.List.{List, [], _∷_}
 use mathlib.Core.Logic.{_⊎_, ⊎-elim, _↔_}
-use mathlib.Core.Option.{some, none}
+use mathlib.Core.Option.{Option, some, none}
 use Prim.Native.Nat.{ℕ, zero, suc, _≤_, _<_}
 use native.Mathlib.Decide.{decLt}
 use native.Mathlib.Nat.{le-of-suc-le-suc, not-suc-le-zero}
@@ -12,18 +12,18 @@ use native.Mathlib.Omega.{arith}
 use borrow.Author.Tests.{not-true, not-false}
 use lib.Dec.{T, leb, leb→le}
 use lib.ListN.{length, getD}
-use Rattle.rows.specs.Rows.{Ranked}
+use Rattle.rows.specs.Rows.{First, NoRow, Ranked}
 use Rattle.rows.proofs.Laws.{ranked}
 use Rattle.values.specs.Values.{sizeOf, isSigned, isKind, greatest, fits, Holds}
 use Rattle.values.specs.declared.Value.the-variants.{Natural}
 use Rattle.values.proofs.Table.{at, every, both-left, both-right}
-use Rattle.values.proofs.Refusals.{decides-fits}
+use Rattle.values.proofs.Refusals.{clash, decides-fits, told-exactly}
 use Rattle.catalogue.specs.Catalogue.{Written, reads, whole, from1, between, Line, table, nothing, mayWrite, lowestOf, highestOf, entryOf, For, NoSuch, findRows, isFor, named, lineFor, findTests, findRefusal, findAnswer, findEntry, Numbers, Finds}
 use Rattle.catalogue.specs.declared.Entry.{Entry}
 use Rattle.catalogue.specs.declared.Fault.{Fault}
 use Rattle.catalogue.specs.declared.Fault.the-variants.{NoSuchRow}
 use Rattle.catalogue.specs.declared.Found.{Found}
-use Rattle.catalogue.specs.declared.Found.the-variants.{Is}
+use Rattle.catalogue.specs.declared.Found.the-variants.{Is, Refused}
 use Rattle.catalogue.proofs.Lookup.{is-for, for-is}
 
 -- ---- "its rule checked once over the table"
@@ -170,7 +170,7 @@ found-exactly model register e = (there (named model register table) refl, back)
         let first = first-for model register table n in
         let is : e ≡ entryOf (lineFor model register table) = cc in
         (first .0, first .1, first .2, is ∙ ap entryOf (first .3))
-    there false n a = absurd (let z : _≡_ {A = ℕ} 0 1 = cc in omega arith)
+    there false n a = clash (cc)
 
     back : (i : ℕ) × (i < length table) × For model register (getD table i nothing) × (e ≡ entryOf (getD table i nothing)) → findEntry model register ≡ Is e
     back r = row-answered (r .0) model register (r .1) (r .2) ∙ ap Is (sym (r .3))
@@ -187,6 +187,15 @@ find-ranked model register =
       },
       (refl, tt),
     )
+
+-- and so of the answer, both ways
+pub find-exactly : (model register : ℕ)
+    → ((f : Fault) → (findEntry model register ≡ Refused f) ↔ First (findRows model register) f)
+    × ((findEntry model register ≡ Is (entryOf (lineFor model register table))) ↔ NoRow (findRows model register))
+unfolding findEntry
+find-exactly model register =
+    told-exactly (λ (o : Option Fault). findAnswer o (entryOf (lineFor model register table))) Refused
+    (λ f. refl) (λ f g e. cc) (λ f e. clash (cc)) (findRows model register) (findRefusal model register) (find-ranked model register)
 
 -- ---- "Show that any two outcomes allowed by it are equal."
 

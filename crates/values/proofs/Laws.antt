@@ -4,7 +4,7 @@ use mathlib.Core.Path.{_≡_, refl, sym, ap, _∙_, subst}
 use mathlib.Core.Bool.{Bool, true, false}
 use mathlib.Core.List.{List, [], _∷_}
 use mathlib.Core.Logic.{_↔_}
-use mathlib.Core.Option.{none}
+use mathlib.Core.Option.{Option, none}
 use Prim.Native.Nat.{ℕ, zero, suc, _+_, _-_, _*_, _/_, _^_, _≤_, _<_}
 use native.Mathlib.Nat.{mod-lt, lt-of-le-of-lt}
 use native.Mathlib.Omega.{arith}
@@ -14,10 +14,13 @@ use lib.IntN.{pos, negsuc, _-ℤ_}
 use lib.ListN.{length, getD, take, drop}
 use Rattle.lent.specs.Lent.{overAt}
 use Rattle.lent.proofs.Laws.{take-over, length-overAt}
-use Rattle.values.specs.Values.{Bytes, Held, Holds, natural, bytesOf, integer, valueAt, storedAt, sizeOf, isSigned, isKind, elementOf, readRefusal, readValue, storedRefusal, setBits, clearBits, toggleBits, bitAt, Numbers, Sizes, Loads, Stores, Keeps, Reads, Writes, Sets, Clears, Toggles, TestsBit}
+use Rattle.rows.specs.Rows.{First, NoRow, Ranked}
+use Rattle.rows.proofs.Laws.{decides-eq, decides-lt, decides-not, decides-or, ranked}
+use Rattle.values.specs.Values.{NoKind, BadLength, NoElement, Unfit, NoRoom, readTests, storedTests, writeTests, readRows, storedRows, writeRows, readAnswer, storedAnswer, writeAnswer, storedValue, writeRefusal, Bytes, Held, Holds, natural, bytesOf, integer, valueAt, storedAt, sizeOf, isSigned, isKind, elementOf, readRefusal, readValue, storedRefusal, setBits, clearBits, toggleBits, bitAt, Numbers, Sizes, Loads, Stores, Keeps, Reads, Writes, Sets, Clears, Toggles, TestsBit}
 use Rattle.values.specs.declared.Value.{Value}
 use Rattle.values.specs.declared.Fault.{Fault}
 use Rattle.values.specs.declared.Stored.{Stored}
+use Rattle.values.specs.declared.Stored.the-variants as stored
 use Rattle.values.specs.declared.Reading.{Reading}
 use Rattle.values.specs.declared.Reading.the-variants as reading
 use Rattle.values.specs.declared.Writing.{Writing}
@@ -25,7 +28,56 @@ use Rattle.values.specs.declared.Writing.the-variants as writing
 use Rattle.values.proofs.Bytes.{natural-lt, bytes-element, length-element, element-lt, length-bytesOf, bytes-bytesOf, natural-bytesOf, bytesOf-natural, byte-at}
 use Rattle.values.proofs.Sized.{stored-back, value-back, value-low, value-high, kind-positive}
 use Rattle.values.proofs.Bits.{run, byte-run, not-run, or-one, and-one, xor-one}
-use Rattle.values.proofs.Refusals.{decides-fits, stored-none, stored-so, read-none, read-same-length, read-is, write-is}
+use Rattle.values.proofs.Refusals.{clash, decides-kind, decides-length, decides-fits, told-exactly, stored-none, stored-so, read-none, read-same-length, read-is, write-is}
+
+-- ---- "Each is given exactly when its condition holds and no earlier one does."
+
+pub read-ranked : (kind : ℕ) (bytes : List ℕ) (element : ℕ) → Ranked (readRows kind bytes element) (readRefusal kind bytes element)
+unfolding readRows readRefusal NoKind BadLength NoElement
+read-ranked kind bytes element =
+    ranked (readTests kind bytes element) (readRows kind bytes element) (
+      decides-not (decides-kind kind),
+      (refl, (decides-or (decides-eq (length bytes) 0) (decides-length kind bytes), (refl, (decides-lt _ _, (refl, tt))))),
+    )
+
+pub stored-ranked : (kind : ℕ) (value : Value) → Ranked (storedRows kind value) (storedRefusal kind value)
+unfolding storedRows storedRefusal NoKind Unfit
+stored-ranked kind value =
+    ranked (storedTests kind value) (storedRows kind value)
+    (decides-not (decides-kind kind), (refl, (decides-not (decides-fits kind value), (refl, tt))))
+
+pub write-ranked : (kind : ℕ) (value : Value) (room : List ℕ) → Ranked (writeRows kind value room) (writeRefusal kind value (length room))
+unfolding writeRows writeRefusal NoKind Unfit NoRoom
+write-ranked kind value room =
+    ranked (writeTests kind value (length room)) (writeRows kind value room) (
+      decides-not (decides-kind kind),
+      (refl, (decides-not (decides-fits kind value), (refl, (decides-lt _ _, (refl, tt))))),
+    )
+
+-- and so of the calls' answers, both ways: `.0` for each number, `.1` for none
+pub read-exactly : (kind : ℕ) (bytes : List ℕ) (element : ℕ)
+    → ((f : Fault) → (readValue kind bytes element ≡ reading.Refused f) ↔ First (readRows kind bytes element) f)
+    × ((readValue kind bytes element ≡ reading.Is (valueAt (isSigned kind) (sizeOf kind) (natural (elementOf (sizeOf kind) bytes element))))
+    ↔ NoRow (readRows kind bytes element))
+unfolding readValue
+read-exactly kind bytes element =
+    told-exactly (λ (o : Option Fault). readAnswer o (valueAt (isSigned kind) (sizeOf kind) (natural (elementOf (sizeOf kind) bytes element)))) reading.Refused
+    (λ f. refl) (λ f g e. cc) (λ f e. clash (cc)) (readRows kind bytes element) (readRefusal kind bytes element) (read-ranked kind bytes element)
+
+pub stored-exactly : (kind : ℕ) (value : Value)
+    → ((f : Fault) → (storedValue kind value ≡ stored.Refused f) ↔ First (storedRows kind value) f)
+    × ((storedValue kind value ≡ stored.As (storedAt (sizeOf kind) value)) ↔ NoRow (storedRows kind value))
+unfolding storedValue
+stored-exactly kind value =
+    told-exactly (λ (o : Option Fault). storedAnswer o (storedAt (sizeOf kind) value)) stored.Refused
+    (λ f. refl) (λ f g e. cc) (λ f e. clash (cc)) (storedRows kind value) (storedRefusal kind value) (stored-ranked kind value)
+
+pub write-exactly : (kind : ℕ) (value : Value) (room : List ℕ)
+    → ((f : Fault) → (writeAnswer (writeRefusal kind value (length room)) ≡ writing.Refused f) ↔ First (writeRows kind value room) f)
+    × ((writeAnswer (writeRefusal kind value (length room)) ≡ writing.Done) ↔ NoRow (writeRows kind value room))
+write-exactly kind value room =
+    told-exactly writeAnswer writing.Refused (λ f. refl) (λ f g e. cc) (λ f e. clash (cc)) (writeRows kind value room)
+    (writeRefusal kind value (length room)) (write-ranked kind value room)
 
 -- ---- "a value fits exactly when the kind can hold it"
 

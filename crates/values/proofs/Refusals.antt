@@ -1,8 +1,9 @@
--- Each call's refusal is the one that its rows give, and what an answer tells of it.
+-- What decides each row, what an answer tells of its refusal, and what a refusal leaves.
 -- Assumes nothing.
 use mathlib.Core.Path.{_≡_, refl, sym, ap, ap₂, _∙_}
 use mathlib.Core.Bool.{Bool, true, false, cond, not, _||_, true≢false}
 use mathlib.Core.List.{List}
+use mathlib.Core.Logic.{_↔_}
 use mathlib.Core.Option.{Option, some, none}
 use Prim.Native.Nat.{ℕ, _+_, _-_, _*_, _/_, _%_, _^_, _<_, _≤_}
 use native.Mathlib.Nat.{div-add-mod', mul-mod-left}
@@ -13,9 +14,9 @@ use lib.ListN.{length, take}
 use lib.Pow.{pow-pos}
 use Rattle.lent.specs.Lent.{over}
 use Rattle.lent.proofs.Laws.{take-over}
-use Rattle.rows.specs.Rows.{Ranked}
-use Rattle.rows.proofs.Laws.{Decides, decides-le, decides-lt, decides-eq, decides-not, decides-or, decides-as, ranked}
-use Rattle.values.specs.Values.{sizeOf, isSigned, isKind, greatest, fits, Holds, valueAt, natural, elementOf, storedAt, bytesOf, NoKind, BadLength, NoElement, Unfit, NoRoom, readRows, storedRows, writeRows, readAnswer, readTests, readRefusal, readValue, storedAnswer, storedTests, storedRefusal, storedValue, writeTests, writeRefusal, writeAnswer, roomAfter, Writes}
+use Rattle.rows.specs.Rows.{Row, First, NoRow, Ranked}
+use Rattle.rows.proofs.Laws.{Decides, decides-le, decides-eq, decides-not, decides-as, refused-exactly, done-exactly}
+use Rattle.values.specs.Values.{sizeOf, isSigned, isKind, greatest, fits, Holds, valueAt, natural, elementOf, storedAt, bytesOf, readAnswer, readRefusal, readValue, storedAnswer, storedRefusal, storedValue, writeRefusal, writeAnswer, roomAfter, Writes}
 use Rattle.values.specs.declared.Value.{Value}
 use Rattle.values.specs.declared.Value.the-variants.{Natural, Negative}
 use Rattle.values.specs.declared.Fault.{Fault}
@@ -24,21 +25,21 @@ use Rattle.values.specs.declared.Reading.the-variants as reading
 use Rattle.values.specs.declared.Stored.the-variants as stored
 use Rattle.values.specs.declared.Writing.the-variants as writing
 use Rattle.values.proofs.Bytes.{length-bytesOf}
-use Rattle.values.proofs.Sized.{size-of-kind, kind-of-size}
+use Rattle.values.proofs.Sized.{positive, size-of-kind, kind-of-size}
+
+pub clash : {A : Type 0} → _≡_ {A = ℕ} 0 1 → A
+clash z = absurd (omega arith)
 
 -- ---- the tests decide the rows
 
-decides-kind : (kind : ℕ) → Decides (isKind kind) ((1 ≤ kind) × (kind ≤ 7))
+pub decides-kind : (kind : ℕ) → Decides (isKind kind) ((1 ≤ kind) × (kind ≤ 7))
 unfolding isKind
 decides-kind kind =
     decides-as (decides-not (decides-eq (sizeOf kind) 0))
     (λ n. kind-of-size kind (positive (sizeOf kind) n))
     (λ h z. let l : 1 ≤ sizeOf kind = size-of-kind kind (h .0) (h .1) .0 in omega arith)
-  where
-    positive : (n : ℕ) → (n ≡ 0 → ⊥) → 1 ≤ n
-    positive n h = omega arith
 
-decides-length : (kind : ℕ) (bytes : List ℕ) → Decides (not (eqb (length bytes % sizeOf kind) 0)) ((q : ℕ) × (length bytes ≡ q * sizeOf kind) → ⊥)
+pub decides-length : (kind : ℕ) (bytes : List ℕ) → Decides (not (eqb (length bytes % sizeOf kind) 0)) ((q : ℕ) × (length bytes ≡ q * sizeOf kind) → ⊥)
 decides-length kind bytes =
     decides-not
     (decides-as (decides-eq (length bytes % sizeOf kind) 0)
@@ -67,34 +68,30 @@ unfolding fits greatest
 decides-fits kind (Natural v) = natural-fits (isSigned kind) (sizeOf kind) v
 decides-fits kind (Negative m) = negative-fits (isSigned kind) (sizeOf kind) m
 
--- ---- "Each is given exactly when its condition holds and no earlier one does."
+-- ---- from a refusal to the answer that tells it
 
-pub read-ranked : (kind : ℕ) (bytes : List ℕ) (element : ℕ) → Ranked (readRows kind bytes element) (readRefusal kind bytes element)
-unfolding readRows readRefusal NoKind BadLength NoElement
-read-ranked kind bytes element =
-    ranked (readTests kind bytes element) (readRows kind bytes element) (
-      decides-not (decides-kind kind),
-      (refl, (decides-or (decides-eq (length bytes) 0) (decides-length kind bytes), (refl, (decides-lt _ _, (refl, tt))))),
-    )
+module _ {F A : Type 0} (answer : Option F → A) (no : F → A) (gives : (f : F) → answer (some f) ≡ no f)
+    (same : (f g : F) → no f ≡ no g → f ≡ g) (differ : (f : F) → answer none ≡ no f → ⊥) where
+  told : (o : Option F) (f : F) → answer o ≡ no f → o ≡ some f
+  told none f e = absurd (differ f e)
+  told (some g) f e = ap some (same g f (sym (gives g) ∙ e))
 
-pub stored-ranked : (kind : ℕ) (value : Value) → Ranked (storedRows kind value) (storedRefusal kind value)
-unfolding storedRows storedRefusal NoKind Unfit
-stored-ranked kind value =
-    ranked (storedTests kind value) (storedRows kind value)
-    (decides-not (decides-kind kind), (refl, (decides-not (decides-fits kind value), (refl, tt))))
+  clear : (o : Option F) → answer o ≡ answer none → o ≡ none
+  clear none e = refl
+  clear (some g) e = absurd (differ g (sym e ∙ gives g))
 
-pub write-ranked : (kind : ℕ) (value : Value) (room : List ℕ) → Ranked (writeRows kind value room) (writeRefusal kind value (length room))
-unfolding writeRows writeRefusal NoKind Unfit NoRoom
-write-ranked kind value room =
-    ranked (writeTests kind value (length room)) (writeRows kind value room) (
-      decides-not (decides-kind kind),
-      (refl, (decides-not (decides-fits kind value), (refl, (decides-lt _ _, (refl, tt))))),
-    )
+  -- a number is told exactly where its row is the first that holds, and none exactly where no row does
+  pub told-exactly : (rs : List (Row F)) (o : Option F) → Ranked rs o
+      → ((f : F) → (answer o ≡ no f) ↔ First rs f) × ((answer o ≡ answer none) ↔ NoRow rs)
+  told-exactly rs o p = (
+    λ f. let exactly = refused-exactly rs o p f in (λ e. exactly .0 (told o f e), λ h. ap answer (exactly .1 h) ∙ gives f),
+    let exactly = done-exactly rs o p in (λ e. exactly .0 (clear o e), λ h. ap answer (exactly .1 h)),
+  )
 
 -- ---- what no refusal tells
 
 none-first : {F : Type 0} (b : Bool) (f : F) (o : Option F) → cond b (some f) o ≡ none → (b ≡ false) × (o ≡ none)
-none-first true f o e = absurd (let z : _≡_ {A = ℕ} 0 1 = cc in omega arith)
+none-first true f o e = clash (cc)
 none-first false f o e = (refl, e)
 
 pub stored-none : (kind : ℕ) (value : Value) → storedRefusal kind value ≡ none → (isKind kind ≡ true) × (fits kind value ≡ true)
@@ -136,7 +133,7 @@ read-is kind bytes element value = by-refusal (readRefusal kind bytes element)
   where
     by-refusal : (o : Option Fault) {v : Value} → readAnswer o v ≡ reading.Is value → (o ≡ none) × (value ≡ v)
     by-refusal none e = (refl, cc)
-    by-refusal (some f) e = absurd (let z : _≡_ {A = ℕ} 0 1 = cc in omega arith)
+    by-refusal (some f) e = clash (cc)
 
 pub stored-as : (kind : ℕ) (value : Value) (n : ℕ) → storedValue kind value ≡ stored.As n
     → (storedRefusal kind value ≡ none) × (n ≡ storedAt (sizeOf kind) value)
@@ -145,14 +142,14 @@ stored-as kind value n = by-refusal (storedRefusal kind value)
   where
     by-refusal : (o : Option Fault) {v : ℕ} → storedAnswer o v ≡ stored.As n → (o ≡ none) × (n ≡ v)
     by-refusal none e = (refl, cc)
-    by-refusal (some f) e = absurd (let z : _≡_ {A = ℕ} 0 1 = cc in omega arith)
+    by-refusal (some f) e = clash (cc)
 
 pub stored-refused : (kind : ℕ) (value : Value) (f : Fault) → storedValue kind value ≡ stored.Refused f → storedRefusal kind value ≡ some f
 unfolding storedValue
 stored-refused kind value f = by-refusal (storedRefusal kind value)
   where
     by-refusal : (o : Option Fault) → storedAnswer o (storedAt (sizeOf kind) value) ≡ stored.Refused f → o ≡ some f
-    by-refusal none e = absurd (let z : _≡_ {A = ℕ} 0 1 = cc in omega arith)
+    by-refusal none e = clash (cc)
     by-refusal (some g) e = cc
 
 -- ---- writing is refused as storing is, and then by the room
@@ -168,7 +165,7 @@ write-refused-so kind value room f = by-tests (not (isKind kind)) (not (fits kin
         → cond a (some UnknownKind) (cond b (some DoesNotFit) short) ≡ some f
     by-tests true b e = e
     by-tests false true e = e
-    by-tests false false e = absurd (let z : _≡_ {A = ℕ} 0 1 = cc in omega arith)
+    by-tests false false e = clash (cc)
 
 pub write-room : (kind : ℕ) (value : Value) (room : ℕ) → storedRefusal kind value ≡ none
     → writeRefusal kind value room ≡ cond (ltb room (sizeOf kind)) (some ShortBuffer) none
@@ -204,7 +201,7 @@ write-is kind value room room′ w =
   where
     by-refusal : (o : Option Fault) → writing.Done ≡ writeAnswer o → o ≡ none
     by-refusal none e = refl
-    by-refusal (some f) e = absurd (let z : _≡_ {A = ℕ} 0 1 = cc in omega arith)
+    by-refusal (some f) e = clash (cc)
 
     first-bytes : (n v : ℕ) (d d′ : List ℕ) → n ≤ length d → d′ ≡ over (bytesOf n v) d → take n d′ ≡ bytesOf n v
     first-bytes n v d d′ h e =

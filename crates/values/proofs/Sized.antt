@@ -42,6 +42,13 @@ size-le kind h =
     let k : (1 ≤ kind) × (kind ≤ 7) = kind-of-size kind h in
     size-of-kind kind (k .0) (k .1) .1
 
+pub positive : (n : ℕ) → (n ≡ 0 → ⊥) → 0 < n
+positive n h = omega arith
+
+pub kind-positive : (kind : ℕ) → isKind kind ≡ true → 0 < sizeOf kind
+unfolding isKind
+kind-positive kind e = positive (sizeOf kind) (eqb-false (sizeOf kind) 0 (not-true (eqb (sizeOf kind) 0) e))
+
 pub kind-known : (kind n : ℕ) → n ≡ sizeOf kind → (n ≡ 0 → ⊥) → isKind kind ≡ true
 unfolding isKind
 kind-known kind n e h = rw (← e, ne-eqb n 0 h)
@@ -107,10 +114,3 @@ value-back true n v p h = elim (decLt v (2 ^ (8 * n - 1))) [
   | no high ↦ let double : 2 ^ (8 * n) ≡ 2 * 2 ^ (8 * n - 1) = power-half n p in
       rw (le-ltb v (2 ^ (8 * n - 1)) (omega arith)) (omega arith, omega arith)
 ]
-
-pub kind-positive : (kind : ℕ) → isKind kind ≡ true → 0 < sizeOf kind
-unfolding isKind
-kind-positive kind e = positive (sizeOf kind) (eqb-false (sizeOf kind) 0 (not-true (eqb (sizeOf kind) 0) e))
-  where
-    positive : (n : ℕ) → (n ≡ 0 → ⊥) → 0 < n
-    positive n h = omega arith
