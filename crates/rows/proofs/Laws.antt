@@ -113,6 +113,30 @@ done-exactly {F} rs o p = (there o p, back o p)
     back none p q = refl
     back (some g) p q = absurd (first-some rs g p q)
 
+-- ---- from a refusal to the answer that tells it
+
+module _ {F A : Type 0} (answer : Option F → A) (no : F → A) (gives : (f : F) → answer (some f) ≡ no f)
+    (same : (f g : F) → no f ≡ no g → f ≡ g) (differ : (f : F) → answer none ≡ no f → ⊥) where
+  told : (o : Option F) (f : F) → answer o ≡ no f → o ≡ some f
+  told none f e = absurd (differ f e)
+  told (some g) f e = ap some (same g f (sym (gives g) ∙ e))
+
+  clear : (o : Option F) → answer o ≡ answer none → o ≡ none
+  clear none e = refl
+  clear (some g) e = absurd (differ g (sym e ∙ gives g))
+
+  -- a number is told exactly where its row is the first that holds, and none exactly where no row does
+  pub told-exactly : (rs : List (Row F)) (o : Option F) → Ranked rs o
+      → ((f : F) → (answer o ≡ no f) ↔ First rs f) × ((answer o ≡ answer none) ↔ NoRow rs)
+  told-exactly rs o p = (
+    λ f. let exactly = refused-exactly rs o p f in (λ e. exactly .0 (told o f e), λ h. ap answer (exactly .1 h) ∙ gives f),
+    let exactly = done-exactly rs o p in (λ e. exactly .0 (clear o e), λ h. ap answer (exactly .1 h)),
+  )
+
+-- two constructors are never equal: from `cc`'s 0 ≡ 1 follows anything
+pub clash : {A : Type 0} → _≡_ {A = ℕ} 0 1 → A
+clash z = absurd (omega arith)
+
 -- ---- what a test tells, from the fact: for the `search` at a function's returns
 
 pub ruleset tests = (eq-eqb, ne-eqb, lt-ltb, le-ltb, le-leb, lt-leb)

@@ -3,19 +3,23 @@
 use mathlib.Core.Path.{_≡_, sym, ap, _∙_, refl, subst}
 use mathlib.Core.Bool.{true, false, true≢false, Bool}
 use mathlib.Core.List.{List, [], _∷_, _++_}
-use mathlib.Core.Logic.{_⊎_, inl, inr, ⊎-elim}
+use mathlib.Core.Logic.{_⊎_, inl, inr, ⊎-elim, _↔_}
+use mathlib.Core.Option.{Option}
 use Prim.Native.Nat.{ℕ, zero, suc, _+_, _-_, _<_}
 use native.Mathlib.Omega.{arith}
 use native.Mathlib.Numerals.{add-one}
 use lib.ListN.{length, length-append, List·getD-append}
-use Rattle.rows.proofs.Laws.{Decides, decides-lt, decides-eq, decides-not, decides-or, told-false, decides-as, Fit, ranked, first-append}
+use Rattle.rows.proofs.Laws.{Decides, decides-lt, decides-eq, decides-not, decides-or, told-false, decides-as, Fit, ranked, first-append, told-exactly, clash}
 use Rattle.remainder.specs.Remainder.{remainderOf}
-use Rattle.rows.specs.Rows.{row, Ranked, firstOf}
+use Rattle.rows.specs.Rows.{row, Ranked, firstOf, First, NoRow}
 use Rattle.frame.specs.Frame.{between, framed, messageOf}
 use Rattle.telegram.proofs.Sound.{frame-parts, Ends, ends-told, stray-found, stray-at, messageOf-framed, sound-framed, Other, bad-found, bad-at}
-use Rattle.telegram.specs.Read.{byte, Between, IsNotFramed, HasStrayEnd, notFramed, hasStrayEnd, HasBadSubstitution, OfMessage, IsShort, IsLong, OverRoom, IsWrong, HasZeroAddress, HasUnknownType, readRows, hasBadSubstitution, frameTests, lengthTests, messageTests, messageRefusal, readRefusal}
-use Rattle.telegram.specs.Write.{telegramFor, IsTooMuch, IsZeroAddress, IsUnknownType, IsOverRoom, writeRows, writeRefusal, writeTests}
+use Rattle.telegram.specs.Read.{byte, Between, IsNotFramed, HasStrayEnd, notFramed, hasStrayEnd, HasBadSubstitution, OfMessage, IsShort, IsLong, OverRoom, IsWrong, HasZeroAddress, HasUnknownType, readRows, hasBadSubstitution, frameTests, lengthTests, messageTests, messageRefusal, readRefusal, fieldsOf, readAnswer, readFrame}
+use Rattle.telegram.specs.Write.{telegramFor, IsTooMuch, IsZeroAddress, IsUnknownType, IsOverRoom, writeRows, writeRefusal, writeTests, writeAnswer}
 use Rattle.telegram.specs.declared.Fault.the-variants.{ShortMessage, LongMessage, NoRoom, CheckFault, ZeroAddress, UnknownType}
+use Rattle.telegram.specs.declared.Fault.{Fault}
+use Rattle.telegram.specs.declared.Reading.the-variants as reading
+use Rattle.telegram.specs.declared.Writing.the-variants as writing
 
 -- ---- 1
 
@@ -177,3 +181,20 @@ write-ranked d s t r bytes room =
         ),
       ),
     )
+
+-- and so of the answers, both ways: `.0` for each number, `.1` for none
+pub read-exactly : (frame : List ℕ) (room : ℕ)
+    → ((f : Fault) → (readFrame frame room ≡ reading.Refused f) ↔ First (readRows frame room) f)
+    × ((readFrame frame room ≡ reading.Telegram (fieldsOf (messageOf frame))) ↔ NoRow (readRows frame room))
+unfolding readFrame
+read-exactly frame room =
+    told-exactly (λ (o : Option Fault). readAnswer o (fieldsOf (messageOf frame))) reading.Refused (λ f. refl) (λ f g e. cc) (λ f e. clash (cc))
+    (readRows frame room) (readRefusal frame room) (read-ranked frame room)
+
+pub write-exactly : (d s t r : ℕ) (bytes : List ℕ) (room : ℕ)
+    → ((f : Fault) → (writeAnswer (writeRefusal d s t r bytes room) (length (telegramFor d s t r bytes)) ≡ writing.Refused f) ↔ First (writeRows d s t r bytes room) f)
+    × ((writeAnswer (writeRefusal d s t r bytes room) (length (telegramFor d s t r bytes)) ≡ writing.Written (length (telegramFor d s t r bytes)))
+    ↔ NoRow (writeRows d s t r bytes room))
+write-exactly d s t r bytes room =
+    told-exactly (λ (o : Option Fault). writeAnswer o (length (telegramFor d s t r bytes))) writing.Refused (λ f. refl) (λ f g e. cc) (λ f e. clash (cc))
+    (writeRows d s t r bytes room) (writeRefusal d s t r bytes room) (write-ranked d s t r bytes room)

@@ -1,0 +1,6 @@
+pub mod Table
+pub mod Bytes
+pub mod Sized
+pub mod Bits
+pub mod Refusals
+pub mod Laws
