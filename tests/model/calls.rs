@@ -1,0 +1,340 @@
+//! Call scripts: a line is parsed, run on the desk or the bench, and its answer formatted.
+
+use crate::bench::{Bench, Register};
+use crate::catalogue;
+use crate::desk::{Desk, Request, Ticket};
+use crate::remainder::remainder;
+use crate::telegram::{self, Message, No};
+use crate::values;
+
+/// The longest line, its newline not counted, that is still a call.
+pub const LONGEST_LINE: usize = 8192;
+const LEAST_VALUE: i128 = -9223372036854775808;
+const GREATEST_VALUE: i128 = 18446744073709551615;
+
+/// A line that parsed.
+enum Call {
+    Rem { bytes: Vec<u8> },
+    Read { frame: Vec<u8>, buf: Vec<u8> },
+    Write { message: Message, buf: Vec<u8> },
+    ValGet { kind: u8, bytes: Vec<u8>, index: u64 },
+    ValPut { kind: u8, value: i128, buf: Vec<u8> },
+    Cat { type_no: u8, register: u8 },
+    BenchNew { address: u8 },
+    OnBench(BenchCall),
+    DeskNew,
+    DeskOpen { request: Request, buf: Vec<u8> },
+    DeskReply { frame: Vec<u8>, buf: Vec<u8> },
+    DeskCancel { job: u32, address: u8 },
+    DeskExpire { clock: u32 },
+    DeskDump,
+}
+
+/// A call that needs a bench.
+enum BenchCall {
+    Add { register: u8, kind: u8, rights: u8 },
+    Set { register: u8, value: i128 },
+    Tele { frame: Vec<u8>, buf: Vec<u8> },
+    Dump,
+}
+
+/// The words of a line that are still to be read.
+struct Words<'a>(std::vec::IntoIter<&'a [u8]>);
+
+impl<'a> Words<'a> {
+    /// The words of a line, parted by exactly one blank.
+    fn new(line: &'a [u8]) -> Words<'a> {
+        Words(line.split(|byte| *byte == b' ').collect::<Vec<&[u8]>>().into_iter())
+    }
+
+    /// The next word as it stands.
+    fn word(&mut self) -> Option<&'a [u8]> {
+        self.0.next()
+    }
+
+    /// The next word as a byte's number, 0 to 255.
+    fn byte(&mut self) -> Option<u8> {
+        u8::try_from(decimal(self.word()?)?).ok()
+    }
+
+    /// The next word as a 32-bit number.
+    fn number(&mut self) -> Option<u32> {
+        u32::try_from(decimal(self.word()?)?).ok()
+    }
+
+    /// The next word as a 64-bit element number.
+    fn index(&mut self) -> Option<u64> {
+        u64::try_from(decimal(self.word()?)?).ok()
+    }
+
+    /// The next word as a value, -2^63 to 2^64-1.
+    fn value(&mut self) -> Option<i128> {
+        let word = self.word()?;
+        let value = match word.strip_prefix(b"-") {
+            Some(digits) => -decimal(digits)?,
+            None => decimal(word)?,
+        };
+        (LEAST_VALUE..=GREATEST_VALUE).contains(&value).then_some(value)
+    }
+
+    /// The next word as bytes.
+    fn bytes(&mut self) -> Option<Vec<u8>> {
+        unhex(self.word()?)
+    }
+
+    /// Nothing may follow.
+    fn end(&mut self) -> Option<()> {
+        self.word().is_none().then_some(())
+    }
+}
+
+/// A number from decimal digits alone; leading zeros are allowed, and what is past any width is none.
+fn decimal(word: &[u8]) -> Option<i128> {
+    if word.is_empty() || !word.iter().all(u8::is_ascii_digit) {
+        return None;
+    }
+    word.iter().try_fold(0i128, |number, digit| number.checked_mul(10)?.checked_add(i128::from(digit - b'0')))
+}
+
+/// Bytes from lower-case hex of an even number of digits, `-` for none.
+fn unhex(word: &[u8]) -> Option<Vec<u8>> {
+    if word == b"-" {
+        return Some(Vec::new());
+    }
+    if word.is_empty() || word.len() % 2 != 0 {
+        return None;
+    }
+    word.chunks(2).map(|pair| Some(hex_digit(pair[0])? * 16 + hex_digit(pair[1])?)).collect()
+}
+
+/// One lower-case hex digit.
+fn hex_digit(digit: u8) -> Option<u8> {
+    b"0123456789abcdef".iter().position(|known| *known == digit).map(|place| place as u8)
+}
+
+/// Bytes as a script shows them: lower-case hex, `-` for none.
+pub fn hex(bytes: &[u8]) -> String {
+    if bytes.is_empty() {
+        return "-".to_string();
+    }
+    bytes.iter().map(|byte| format!("{byte:02x}")).collect()
+}
+
+/// The call a line stands for, or none for a bad line.
+fn parse(line: &[u8]) -> Option<Call> {
+    if line.len() > LONGEST_LINE {
+        return None;
+    }
+    let mut words = Words::new(line);
+    let name = words.word()?;
+    let call = parse_call(name, &mut words)?;
+    words.end()?;
+    Some(call)
+}
+
+/// The call of this name with its words.
+fn parse_call(name: &[u8], words: &mut Words) -> Option<Call> {
+    Some(match name {
+        b"rem" => Call::Rem { bytes: words.bytes()? },
+        b"read" => Call::Read { frame: words.bytes()?, buf: words.bytes()? },
+        b"write" => Call::Write { message: parse_message(words)?, buf: words.bytes()? },
+        b"val.get" => Call::ValGet { kind: words.byte()?, bytes: words.bytes()?, index: words.index()? },
+        b"val.put" => Call::ValPut { kind: words.byte()?, value: words.value()?, buf: words.bytes()? },
+        b"cat" => Call::Cat { type_no: words.byte()?, register: words.byte()? },
+        b"bench.new" => Call::BenchNew { address: words.byte()? },
+        b"bench.add" => {
+            Call::OnBench(BenchCall::Add { register: words.byte()?, kind: words.byte()?, rights: words.byte()? })
+        }
+        b"bench.set" => Call::OnBench(BenchCall::Set { register: words.byte()?, value: words.value()? }),
+        b"bench.tele" => Call::OnBench(BenchCall::Tele { frame: words.bytes()?, buf: words.bytes()? }),
+        b"bench.dump" => Call::OnBench(BenchCall::Dump),
+        b"desk.new" => Call::DeskNew,
+        b"desk.open" => Call::DeskOpen { request: parse_request(words)?, buf: words.bytes()? },
+        b"desk.reply" => Call::DeskReply { frame: words.bytes()?, buf: words.bytes()? },
+        b"desk.cancel" => parse_cancel(words)?,
+        b"desk.expire" => Call::DeskExpire { clock: words.number()? },
+        b"desk.dump" => Call::DeskDump,
+        _ => return None,
+    })
+}
+
+/// DEST SRC TYPE REG DATA of a write.
+fn parse_message(words: &mut Words) -> Option<Message> {
+    let (dest, source, type_no, register) = (words.byte()?, words.byte()?, words.byte()?, words.byte()?);
+    Some(Message { dest, source, type_no, register, data: words.bytes()? })
+}
+
+/// JOB MODULE TYPE REG DATA WAIT FOLDER CLOCK of an opening; the folder must parse and is passed over.
+fn parse_request(words: &mut Words) -> Option<Request> {
+    let (job, module, type_no, register) = (words.number()?, words.byte()?, words.byte()?, words.byte()?);
+    let (data, wait, _folder, clock) = (words.bytes()?, words.number()?, words.number()?, words.number()?);
+    Some(Request { job, module, type_no, register, data, wait, clock })
+}
+
+/// JOB ADDRESS CLOCK of a cancel; the clock must parse and is passed over.
+fn parse_cancel(words: &mut Words) -> Option<Call> {
+    let (job, address, _clock) = (words.number()?, words.byte()?, words.number()?);
+    Some(Call::DeskCancel { job, address })
+}
+
+/// What the calls work on: the desk, and the bench once there is one.
+pub struct Rehearsal {
+    pub desk: Desk,
+    pub bench: Option<Bench>,
+}
+
+impl Rehearsal {
+    /// A fresh desk and no bench.
+    pub fn new() -> Rehearsal {
+        Rehearsal { desk: Desk::new(), bench: None }
+    }
+
+    /// The answer line to a call line, both without their newline.
+    pub fn answer(&mut self, line: &[u8]) -> String {
+        match parse(line) {
+            Some(call) => self.run(call),
+            None => "bad line".to_string(),
+        }
+    }
+
+    /// Runs a call and formats its answer.
+    fn run(&mut self, call: Call) -> String {
+        match call {
+            Call::Rem { bytes } => plain(Ok(format!("rem={}", remainder(&bytes)))),
+            Call::Read { frame, buf } => lent(buf, |room| telegram::read(&frame, room).map(read_fields)),
+            Call::Write { message, buf } => lent(buf, |room| telegram::write(&message, room).map(length_field)),
+            Call::ValGet { kind, bytes, index } => {
+                plain(values::get(kind, &bytes, index).map(|value| format!("value={value}")))
+            }
+            Call::ValPut { kind, value, buf } => {
+                lent(buf, |room| values::put(kind, value, room).map(|bytes| (String::new(), bytes)))
+            }
+            Call::Cat { type_no, register } => plain(catalogue::find(type_no, register).map(catalogue_fields)),
+            Call::BenchNew { address } => plain(self.new_bench(address)),
+            Call::OnBench(call) => match &mut self.bench {
+                Some(bench) => run_on_bench(bench, call),
+                None => "no bench".to_string(),
+            },
+            Call::DeskNew => plain(Ok(self.new_desk())),
+            Call::DeskOpen { request, buf } => lent(buf, |room| self.desk.open(&request, room).map(open_fields)),
+            Call::DeskReply { frame, buf } => lent(buf, |room| self.desk.reply(&frame, room).map(reply_fields)),
+            Call::DeskCancel { job, address } => {
+                plain(self.desk.cancel(job, address).map(|()| closed_fields((job, address))))
+            }
+            Call::DeskExpire { clock } => plain(self.desk.expire(clock).map(closed_fields)),
+            Call::DeskDump => plain(Ok(desk_fields(&self.desk))),
+        }
+    }
+
+    /// A fresh bench takes the place of the one there was, or 34 leaves that one; no fields are answered.
+    fn new_bench(&mut self, address: u8) -> Result<String, No> {
+        self.bench = Some(Bench::new(address)?);
+        Ok(String::new())
+    }
+
+    /// A fresh desk takes the place of the one there was; no fields are answered.
+    fn new_desk(&mut self) -> String {
+        self.desk = Desk::new();
+        String::new()
+    }
+}
+
+/// Runs a call on the bench there is.
+fn run_on_bench(bench: &mut Bench, call: BenchCall) -> String {
+    match call {
+        BenchCall::Add { register, kind, rights } => plain(bench.add(register, kind, rights).map(|()| String::new())),
+        BenchCall::Set { register, value } => plain(bench.set(register, value).map(|()| String::new())),
+        BenchCall::Tele { frame, buf } => lent(buf, |room| bench.tele(&frame, room).map(length_field)),
+        BenchCall::Dump => plain(Ok(bench_fields(bench))),
+    }
+}
+
+/// `ok` and its fields, or `no` and its number.
+fn plain(result: Result<String, No>) -> String {
+    match result {
+        Ok(fields) if fields.is_empty() => "ok".to_string(),
+        Ok(fields) => format!("ok {fields}"),
+        Err(no) => format!("no {no}"),
+    }
+}
+
+/// The same for a call with a lent buffer: what it hands over goes to the first bytes, a refusal touches none.
+fn lent(mut buf: Vec<u8>, call: impl FnOnce(usize) -> Result<(String, Vec<u8>), No>) -> String {
+    let result = call(buf.len());
+    if let Ok((_, bytes)) = &result {
+        buf[..bytes.len()].copy_from_slice(bytes);
+    }
+    format!("{} buf={}", plain(result.map(|(fields, _)| fields)), hex(&buf))
+}
+
+/// The fields of a message that was read, and its data for the buffer.
+fn read_fields(read: Message) -> (String, Vec<u8>) {
+    let Message { dest, source, type_no, register, data } = read;
+    (format!("dest={dest} src={source} type={type_no} reg={register} n={}", data.len()), data)
+}
+
+/// The length of a telegram, and the telegram for the buffer.
+fn length_field(telegram: Vec<u8>) -> (String, Vec<u8>) {
+    (format!("n={}", telegram.len()), telegram)
+}
+
+/// The fields of a catalogue row.
+fn catalogue_fields(entry: catalogue::Entry) -> String {
+    format!("kind={} write={} lo={} hi={}", entry.kind, u8::from(entry.write), entry.lowest, entry.highest)
+}
+
+/// The fields of an opened ticket, and its telegram for the buffer.
+fn open_fields((address, telegram): (u8, Vec<u8>)) -> (String, Vec<u8>) {
+    (format!("address={address} n={}", telegram.len()), telegram)
+}
+
+/// The fields of a booked reply, and its data for the buffer.
+fn reply_fields((job, reply): (u32, Message)) -> (String, Vec<u8>) {
+    (format!("job={job} address={} type={} n={}", reply.dest, reply.type_no, reply.data.len()), reply.data)
+}
+
+/// The fields of a ticket that was cancelled or expired.
+fn closed_fields((job, address): (u32, u8)) -> String {
+    format!("job={job} address={address}")
+}
+
+/// The bench's address and its registers, by rising register.
+fn bench_fields(bench: &Bench) -> String {
+    let shown = |(number, register): (&u8, &Register)| {
+        let Register { kind, rights, value } = register;
+        format!("{number}:{kind}:{rights}:{}", hex(value))
+    };
+    format!("address={} regs={}", bench.address, list(bench.registers.iter().map(shown).collect()))
+}
+
+/// The desk's turn and its tickets, by rising address.
+fn desk_fields(desk: &Desk) -> String {
+    let shown = |(address, ticket): (&u8, &Ticket)| {
+        let Ticket { job, module, type_no, register, wait, opened } = ticket;
+        format!("{address}:{job}:{module}:{type_no}:{register}:{wait}:{opened}")
+    };
+    format!("turn={} tickets={}", desk.turn, list(desk.tickets.iter().map(shown).collect()))
+}
+
+/// The entries of a list parted by commas, `-` for none.
+fn list(entries: Vec<String>) -> String {
+    if entries.is_empty() {
+        return "-".to_string();
+    }
+    entries.join(",")
+}
+
+/// The lines of a text. A last line without newline counts; nothing after the last newline is no line.
+pub fn lines(text: &[u8]) -> Vec<&[u8]> {
+    let mut lines: Vec<&[u8]> = text.split(|byte| *byte == b'\n').collect();
+    if lines.last().map_or(false, |last| last.is_empty()) {
+        lines.pop();
+    }
+    lines
+}
+
+/// The answers to a whole script, one line for each call line, from a fresh start.
+pub fn answers(script: &[u8]) -> String {
+    let mut rehearsal = Rehearsal::new();
+    lines(script).iter().map(|line| rehearsal.answer(line) + "\n").collect()
+}

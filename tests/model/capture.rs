@@ -1,0 +1,147 @@
+//! Captures made by the seed: a line with traffic of four rigs, noise, and damage of every sort.
+
+use crate::bench::Bench;
+use crate::desk::{Desk, Request};
+use crate::faults::{damage, data, flip_within_16, message, spoil, tiny};
+use crate::random::Random;
+use crate::telegram::{frame, Message, No, END, MOST_DATA, START};
+use crate::values::KINDS;
+
+/// The addresses of the four rigs' modules; two of them are bytes that are substituted.
+const RIGS: [u8; 4] = [15, 10, 94, 160];
+/// The registers of each module.
+const REGISTERS: [u8; 7] = [0x10, 0x30, 0x31, 0x5E, 0x66, 0x71, 0x0D];
+
+/// The line: one desk and four rigs that answer it.
+struct Line {
+    random: Random,
+    desk: Desk,
+    rigs: Vec<Bench>,
+}
+
+/// A piece of a capture, made anew each time.
+type Piece = fn(&mut Line) -> Vec<u8>;
+
+/// All pieces, the right traffic most often.
+const ANY: [Piece; 10] = [exchange, exchange, exchange, noise, other_message, damaged, spoiled, cut, too_long, starts];
+
+/// The capture of a seed. Neighbouring seeds give each sort, and each length around 65536, in turn.
+pub fn capture(seed: u64) -> Vec<u8> {
+    let mut line =
+        Line { random: Random::new(seed), desk: Desk::new(), rigs: RIGS.iter().filter_map(|own| rig(*own)).collect() };
+    let short = line.random.between(20, 3000);
+    let around = line.random.between(65400, 65700);
+    match seed % 12 {
+        0 if seed % 24 == 0 => Vec::new(),
+        0 => tiny(&mut line.random),
+        1 => record(&mut line, &[noise], short),
+        2 => record(&mut line, &[exchange], short),
+        3 => record(&mut line, &[damaged, spoiled, exchange], short),
+        4 => record(&mut line, &[cut, exchange], short),
+        5 => record(&mut line, &[too_long, exchange], 5 * short),
+        6 => record(&mut line, &[starts, exchange], short),
+        7 => record(&mut line, &ANY, short),
+        8 => record(&mut line, &ANY, 65535),
+        9 => record(&mut line, &ANY, 65536),
+        10 => record(&mut line, &ANY, 65537),
+        _ => record(&mut line, &ANY, around),
+    }
+}
+
+/// A rig's module on this address, with a register of each kind and every right.
+fn rig(own: u8) -> Option<Bench> {
+    let mut bench = Bench::new(own).ok()?;
+    for (register, kind) in REGISTERS.iter().zip(KINDS) {
+        bench.add(*register, kind, 7).ok()?;
+    }
+    Some(bench)
+}
+
+/// A record of exactly this length from such pieces; its last frame may be cut, or closed just at the end.
+fn record(line: &mut Line, pieces: &[Piece], length: usize) -> Vec<u8> {
+    let mut record = Vec::new();
+    while record.len() < length {
+        let piece = line.random.pick(pieces);
+        record.extend(piece(line));
+    }
+    record.truncate(length);
+    if line.random.one_in(3) {
+        record[length - 1] = line.random.pick(&[START, END]);
+    }
+    record
+}
+
+/// A request to one of the rigs and its reply; now and then the reply is lost and the ticket cancelled.
+fn exchange(line: &mut Line) -> Vec<u8> {
+    let rig = line.random.below(line.rigs.len());
+    let request = request(&mut line.random, line.rigs[rig].address);
+    let (address, mut traffic) = match line.desk.open(&request, usize::MAX) {
+        Ok(opened) => opened,
+        Err(_) => return Vec::new(),
+    };
+    let reply = line.rigs[rig].tele(&traffic, usize::MAX).unwrap_or_default();
+    if !line.random.one_in(10) && line.desk.reply(&reply, MOST_DATA).is_ok() {
+        traffic.extend(reply);
+        return traffic;
+    }
+    line.desk.cancel(request.job, address).map_or_else(|_| Vec::new(), |()| traffic)
+}
+
+/// A request for a module, of a size that fits some of its registers.
+fn request(random: &mut Random, module: u8) -> Request {
+    let type_no = random.pick(&[4, 4, 4, 5, 6, 7, 9]);
+    let length = if type_no == 4 { 0 } else { random.pick(&[1, 2, 4, 8]) };
+    let (job, register, data) = (random.between(1, 40) as u32, random.pick(&REGISTERS), data(random, length));
+    Request { job, module, type_no, register, data, wait: 100, clock: 0 }
+}
+
+/// Bytes outside of any order.
+fn noise(line: &mut Line) -> Vec<u8> {
+    let length = line.random.below(60);
+    line.random.bytes(length)
+}
+
+/// A right frame between any two addresses, of any length.
+fn other_message(line: &mut Line) -> Vec<u8> {
+    message(&mut line.random).telegram()
+}
+
+/// A frame after accidents on the wire, or with neighbouring bits altered.
+fn damaged(line: &mut Line) -> Vec<u8> {
+    let message = message(&mut line.random);
+    if line.random.one_in(3) {
+        let mut bytes = message.bytes();
+        flip_within_16(&mut line.random, &mut bytes);
+        return frame(&bytes);
+    }
+    let mut frame = message.telegram();
+    damage(&mut line.random, &mut frame);
+    frame
+}
+
+/// A frame with the fault of some row of the reader.
+fn spoiled(line: &mut Line) -> Vec<u8> {
+    let message = message(&mut line.random);
+    let row = line.random.between(1, 9) as No;
+    spoil(&mut line.random, &message, row)
+}
+
+/// A frame that breaks off.
+fn cut(line: &mut Line) -> Vec<u8> {
+    let mut frame = message(&mut line.random).telegram();
+    frame.truncate(line.random.below(frame.len()));
+    frame
+}
+
+/// A frame over 494 bytes, its remainder right all the same.
+fn too_long(line: &mut Line) -> Vec<u8> {
+    let length = line.random.pick(&[241, 486, 488, 490, 600, 2000]);
+    let data = data(&mut line.random, length);
+    Message { data, ..message(&mut line.random) }.telegram()
+}
+
+/// Many starts, now and then an end or a byte between them.
+fn starts(line: &mut Line) -> Vec<u8> {
+    let length = line.random.below(30);
+    (0..length).map(|_| line.random.pick(&[START, START, START, START, END, 0, 94])).collect()
+}

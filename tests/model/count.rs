@@ -1,0 +1,130 @@
+//! How often each call was answered in each way, and whether every way occurred.
+
+use crate::calls::lines;
+use crate::telegram::No;
+use std::collections::BTreeMap;
+
+/// Each call with the numbers its order lists.
+const ORDERS: [(&str, &[No]); 17] = [
+    ("rem", &[]),
+    ("read", &[1, 2, 3, 4, 5, 6, 7, 8, 9]),
+    ("write", &[5, 8, 9, 6]),
+    ("val.get", &[40, 41, 42]),
+    ("val.put", &[40, 43, 44]),
+    ("cat", &[50]),
+    ("bench.new", &[34]),
+    ("bench.add", &[30, 31, 32, 33]),
+    ("bench.set", &[38, 43]),
+    ("bench.tele", &[1, 2, 3, 4, 5, 7, 8, 9, 35, 36, 37]),
+    ("bench.dump", &[]),
+    ("desk.new", &[]),
+    ("desk.open", &[10, 11, 12, 13, 14, 15, 16]),
+    ("desk.reply", &[1, 2, 3, 4, 5, 6, 7, 8, 9, 17, 18, 19, 20]),
+    ("desk.cancel", &[21]),
+    ("desk.expire", &[22]),
+    ("desk.dump", &[]),
+];
+/// Stands for a line that begins with the name of no call.
+const NO_CALL: &str = "(no call)";
+
+/// How a line was answered.
+#[derive(Clone, Copy, PartialEq, Eq, PartialOrd, Ord)]
+enum Way {
+    Ok,
+    No(No),
+    BadLine,
+    NoBench,
+    Unknown,
+}
+
+type Counts = BTreeMap<(&'static str, Way), usize>;
+
+/// The name of the call a script line begins with.
+fn name(line: &[u8]) -> &'static str {
+    let first = line.split(|byte| *byte == b' ').next().unwrap_or(&[]);
+    ORDERS.iter().map(|(name, _)| *name).find(|name| name.as_bytes() == first).unwrap_or(NO_CALL)
+}
+
+/// The way an answer line answers.
+fn way(answer: &[u8]) -> Way {
+    let text = String::from_utf8_lossy(answer);
+    let words: Vec<&str> = text.split(' ').collect();
+    match words[..] {
+        ["bad", "line"] => Way::BadLine,
+        ["no", "bench"] => Way::NoBench,
+        ["ok", ..] => Way::Ok,
+        ["no", number, ..] => number.parse().map_or(Way::Unknown, Way::No),
+        _ => Way::Unknown,
+    }
+}
+
+/// The table of a script and its answers, and whether nothing is missing from it.
+pub fn count(script: &[u8], answers: &[u8]) -> (String, bool) {
+    let (calls, answers) = (lines(script), lines(answers));
+    let mut counts = Counts::new();
+    for (call, answer) in calls.iter().zip(&answers) {
+        *counts.entry((name(call), way(answer))).or_default() += 1;
+    }
+    let mut complaints: Vec<String> = ORDERS.iter().flat_map(|(name, order)| missing(&counts, name, order)).collect();
+    complaints
+        .extend(counts.keys().filter(|(name, way)| !is_listed(name, *way)).map(|(name, way)| unlisted(name, *way)));
+    if calls.len() != answers.len() {
+        complaints.push(format!("{} calls but {} answers", calls.len(), answers.len()));
+    }
+    let told: String = complaints.iter().map(|line| format!("{line}\n")).collect();
+    (table(&counts) + &told, complaints.is_empty())
+}
+
+/// What should have occurred for a call and never did.
+fn missing(counts: &Counts, name: &'static str, order: &[No]) -> Vec<String> {
+    let mut wanted = vec![Way::Ok];
+    wanted.extend(order.iter().map(|no| Way::No(*no)));
+    wanted.retain(|way| !counts.contains_key(&(name, *way)));
+    wanted.iter().map(|way| format!("{name}: {} never occurred", words(*way))).collect()
+}
+
+/// Whether a call may be answered this way at all; number 6 is not in the order of bench.tele.
+fn is_listed(name: &str, way: Way) -> bool {
+    match way {
+        Way::BadLine => true,
+        Way::NoBench => name.starts_with("bench.") && name != "bench.new",
+        Way::Ok => name != NO_CALL,
+        Way::No(no) => ORDERS.iter().any(|(known, order)| *known == name && order.contains(&no)),
+        Way::Unknown => false,
+    }
+}
+
+/// The complaint about an answer that must not occur.
+fn unlisted(name: &str, way: Way) -> String {
+    format!("{name}: {} must not occur", words(way))
+}
+
+/// A way of answering in words.
+fn words(way: Way) -> String {
+    match way {
+        Way::Ok => "ok".to_string(),
+        Way::No(no) => format!("no {no}"),
+        Way::BadLine => "bad line".to_string(),
+        Way::NoBench => "no bench".to_string(),
+        Way::Unknown => "an unknown answer".to_string(),
+    }
+}
+
+/// One line for each call: ok, bad line, no bench, and then each refusal number with its count.
+fn table(counts: &Counts) -> String {
+    let mut text = format!("{:<12}{:>7}{:>10}{:>10}  refusals\n", "call", "ok", "bad line", "no bench");
+    for name in ORDERS.iter().map(|(name, _)| *name).chain([NO_CALL]) {
+        let times = |way| counts.get(&(name, way)).copied().unwrap_or(0);
+        let (ok, bad_line, no_bench) = (times(Way::Ok), times(Way::BadLine), times(Way::NoBench));
+        text += &format!("{name:<12}{ok:>7}{bad_line:>10}{no_bench:>10}{}\n", refusals(counts, name));
+    }
+    text
+}
+
+/// The refusal numbers of a call with their counts, by rising number.
+fn refusals(counts: &Counts, name: &str) -> String {
+    let of_call = counts.iter().filter(|((known, _), _)| *known == name);
+    of_call
+        .filter_map(|((_, way), times)| if let Way::No(no) = way { Some(format!("  {no}:{times}")) } else { None })
+        .collect()
+}

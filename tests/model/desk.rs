@@ -1,0 +1,147 @@
+//! The ticket desk: each request gets a host address of its own, each reply is booked on one ticket.
+
+use crate::telegram::{self, lowest, Message, No, MOST_DATA};
+use std::collections::BTreeMap;
+
+pub const FIRST_HOST: u8 = 161;
+pub const LAST_HOST: u8 = 255;
+/// How many host addresses there are to give.
+pub const HOSTS: u8 = 95;
+
+/// What a job asks the desk to open a ticket for.
+#[derive(Clone)]
+pub struct Request {
+    pub job: u32,
+    pub module: u8,
+    pub type_no: u8,
+    pub register: u8,
+    pub data: Vec<u8>,
+    pub wait: u32,
+    pub clock: u32,
+}
+
+/// An open ticket; the desk keeps it under its host address.
+#[derive(Clone)]
+pub struct Ticket {
+    pub job: u32,
+    pub module: u8,
+    pub type_no: u8,
+    pub register: u8,
+    pub wait: u32,
+    pub opened: u32,
+}
+
+#[derive(Clone)]
+pub struct Desk {
+    pub turn: u8,
+    pub tickets: BTreeMap<u8, Ticket>,
+}
+
+impl Request {
+    /// Rows 10 to 14: what is wrong with the request itself.
+    fn check(&self) -> Result<(), No> {
+        lowest(&[
+            (10, self.job == 0),
+            (11, !(1..=160).contains(&self.module)),
+            (12, ![4, 5, 6, 7, 9].contains(&self.type_no)),
+            (13, self.data.len() > MOST_DATA || (self.type_no == 4 && !self.data.is_empty())),
+            (14, !(1..=60000).contains(&self.wait)),
+        ])
+    }
+
+    /// The request as a message from this host address.
+    fn message(&self, address: u8) -> Message {
+        Message {
+            dest: self.module,
+            source: address,
+            type_no: self.type_no,
+            register: self.register,
+            data: self.data.clone(),
+        }
+    }
+
+    /// The ticket that is opened for the request.
+    fn ticket(&self) -> Ticket {
+        Ticket {
+            job: self.job,
+            module: self.module,
+            type_no: self.type_no,
+            register: self.register,
+            wait: self.wait,
+            opened: self.clock,
+        }
+    }
+}
+
+impl Ticket {
+    /// Due when the age, the clock minus the opening modulo 4294967296, is at least the waiting time.
+    fn is_due(&self, clock: u32) -> bool {
+        let age = (i64::from(clock) - i64::from(self.opened)).rem_euclid(4294967296);
+        age >= i64::from(self.wait)
+    }
+
+    /// A read is answered by type 8, 0, 1 or 2, a write of any sort by 3, 0, 1 or 2.
+    fn kind_fits(&self, reply: &Message) -> bool {
+        let own = if self.type_no == 4 { 8 } else { 3 };
+        [own, 0, 1, 2].contains(&reply.type_no)
+    }
+
+    /// A datagram's register must equal the ticket's; types 0 to 3 may also carry register 0.
+    fn register_fits(&self, reply: &Message) -> bool {
+        reply.register == self.register || ([0, 1, 2, 3].contains(&reply.type_no) && reply.register == 0)
+    }
+}
+
+impl Desk {
+    /// A fresh desk: no tickets, the next turn at 161.
+    pub fn new() -> Desk {
+        Desk { turn: FIRST_HOST, tickets: BTreeMap::new() }
+    }
+
+    /// The first address without a ticket, from the turn upwards and after 255 from 161 on.
+    fn free_address(&self) -> Option<u8> {
+        let from_turn = self.turn..=LAST_HOST;
+        from_turn.chain(FIRST_HOST..=LAST_HOST).find(|address| !self.tickets.contains_key(address))
+    }
+
+    /// Opens a ticket and answers its address and the telegram, for a buffer with this room: 10 to 16.
+    pub fn open(&mut self, request: &Request, room: usize) -> Result<(u8, Vec<u8>), No> {
+        request.check()?;
+        let address = self.free_address().ok_or(15u32)?;
+        let telegram = request.message(address).telegram();
+        lowest(&[(16, telegram.len() > room)])?;
+        self.tickets.insert(address, request.ticket());
+        self.turn = if address == LAST_HOST { FIRST_HOST } else { address + 1 };
+        Ok((address, telegram))
+    }
+
+    /// Books a reply, with this room for its data: 1 to 9, then 17 to 20. Answers the job and the reply.
+    pub fn reply(&mut self, frame: &[u8], room: usize) -> Result<(u32, Message), No> {
+        let reply = telegram::read(frame, room)?;
+        let ticket = self.tickets.get(&reply.dest).ok_or(17u32)?;
+        lowest(&[
+            (18, reply.source != ticket.module),
+            (19, !ticket.kind_fits(&reply)),
+            (20, !ticket.register_fits(&reply)),
+        ])?;
+        let job = ticket.job;
+        self.tickets.remove(&reply.dest);
+        Ok((job, reply))
+    }
+
+    /// Closes the ticket that is open on the address for that job now, or 21.
+    pub fn cancel(&mut self, job: u32, address: u8) -> Result<(), No> {
+        let held = self.tickets.get(&address).map_or(false, |ticket| ticket.job == job);
+        lowest(&[(21, !held)])?;
+        self.tickets.remove(&address);
+        Ok(())
+    }
+
+    /// Closes the due ticket with the lowest address and answers job and address, or 22.
+    pub fn expire(&mut self, clock: u32) -> Result<(u32, u8), No> {
+        let due = self.tickets.iter().find(|(_, ticket)| ticket.is_due(clock));
+        let (job, address) = due.map(|(address, ticket)| (ticket.job, *address)).ok_or(22u32)?;
+        self.tickets.remove(&address);
+        Ok((job, address))
+    }
+}

@@ -1,0 +1,71 @@
+//! The model: a plain reading of the lab's papers, against which the proved library is tested.
+
+mod bench;
+mod calls;
+mod capture;
+mod catalogue;
+mod count;
+mod desk;
+mod faults;
+mod listing;
+mod random;
+mod remainder;
+mod script;
+mod telegram;
+mod values;
+mod vectors;
+
+use std::io::{self, Read, Write};
+use std::process::ExitCode;
+
+const USAGE: &str = "usage: model answer | script SEED CALLS | count SCRIPT ANSWERS | list | capture SEED | vectors";
+
+/// 0 when all is well, 1 when a check fails, 2 when the command can't be carried out.
+fn main() -> ExitCode {
+    let words: Vec<String> = std::env::args_os().skip(1).map(|word| word.to_string_lossy().into_owned()).collect();
+    match run(&words.iter().map(String::as_str).collect::<Vec<&str>>()) {
+        Ok(true) => ExitCode::SUCCESS,
+        Ok(false) => ExitCode::from(1),
+        Err(error) => {
+            eprintln!("model: {error}");
+            ExitCode::from(2)
+        }
+    }
+}
+
+/// Carries out a subcommand and answers whether its checks hold.
+fn run(words: &[&str]) -> io::Result<bool> {
+    match words {
+        ["answer"] => put(calls::answers(&input()?), true),
+        ["script", seed, calls] => put(script::write(number(seed)?, number(calls)? as usize), true),
+        ["count", script, answers] => {
+            let (table, complete) = count::count(&std::fs::read(script)?, &std::fs::read(answers)?);
+            put(table, complete)
+        }
+        ["list"] => put(listing::list(&input()?), true),
+        ["capture", seed] => put(capture::capture(number(seed)?), true),
+        ["vectors"] => {
+            let (report, all_hold) = vectors::report();
+            put(report, all_hold)
+        }
+        _ => Err(io::Error::new(io::ErrorKind::Other, USAGE)),
+    }
+}
+
+/// All of standard input.
+fn input() -> io::Result<Vec<u8>> {
+    let mut bytes = Vec::new();
+    io::stdin().lock().read_to_end(&mut bytes)?;
+    Ok(bytes)
+}
+
+/// Writes to standard output and hands the verdict on.
+fn put(bytes: impl AsRef<[u8]>, verdict: bool) -> io::Result<bool> {
+    io::stdout().lock().write_all(bytes.as_ref())?;
+    Ok(verdict)
+}
+
+/// A seed or a number of calls.
+fn number(word: &str) -> io::Result<u64> {
+    word.parse().map_err(|_| io::Error::new(io::ErrorKind::Other, USAGE))
+}

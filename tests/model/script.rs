@@ -1,0 +1,92 @@
+//! Seeded call scripts: sections over every call, run on a rehearsal of their own so that walks go deep.
+
+mod bench_walk;
+mod desk_walk;
+mod numbers;
+mod rough;
+mod telegrams;
+
+use crate::calls::Rehearsal;
+use crate::random::Random;
+
+/// A script under way: its lines and the desk and bench they have led to.
+pub struct Script {
+    random: Random,
+    rehearsal: Rehearsal,
+    lines: Vec<Vec<u8>>,
+}
+
+/// One round of sections; a script is made of rounds, each in another order.
+const ROUND: [fn(&mut Script); 17] = [
+    rough::any_numbers,
+    rough::bad_lines,
+    telegrams::remainders,
+    telegrams::reads,
+    telegrams::writes,
+    numbers::value_reads,
+    numbers::value_writes,
+    numbers::catalogue_queries,
+    bench_walk::registers,
+    bench_walk::full_bench,
+    bench_walk::telegrams,
+    bench_walk::telegrams,
+    desk_walk::full_desk,
+    desk_walk::rounds_of_the_turn,
+    desk_walk::expiries,
+    desk_walk::mixed,
+    desk_walk::mixed,
+];
+
+/// The script of a seed, of so many lines, each ended by one newline.
+pub fn write(seed: u64, calls: usize) -> Vec<u8> {
+    let mut script = Script { random: Random::new(seed), rehearsal: Rehearsal::new(), lines: Vec::new() };
+    bench_walk::no_bench_yet(&mut script);
+    desk_walk::no_desk_yet(&mut script);
+    while script.lines.len() < calls {
+        let mut round = ROUND;
+        script.random.shuffle(&mut round);
+        round.iter().for_each(|section| section(&mut script));
+    }
+    script.lines.truncate(calls);
+    script.lines.iter().flat_map(|line| [line.as_slice(), b"\n"].concat()).collect()
+}
+
+impl Script {
+    /// Adds a call line to the script and runs it on the rehearsal.
+    fn call(&mut self, line: impl AsRef<[u8]>) {
+        self.rehearsal.answer(line.as_ref());
+        self.lines.push(line.as_ref().to_vec());
+    }
+}
+
+/// A lent buffer of this length, full of bytes that are easy to know again, none of them 0.
+fn buffer(length: usize) -> Vec<u8> {
+    (0..length).map(|place| 161 + (place % 64) as u8).collect()
+}
+
+/// A room for a need: longer in half of the cases, else the very length, one less, or any less.
+fn room(random: &mut Random, needed: usize) -> usize {
+    match random.below(8) {
+        6 => needed.saturating_sub(1),
+        7 => random.below(needed + 1),
+        _ => enough(random, needed),
+    }
+}
+
+/// A room that is enough: longer in two of three cases, else the very length.
+fn enough(random: &mut Random, needed: usize) -> usize {
+    match random.below(6) {
+        0 | 1 => needed,
+        2 => needed + 1,
+        3 | 4 => needed + random.between(2, 12),
+        _ => needed + random.between(13, 60),
+    }
+}
+
+/// A room that is too little for a need of at least 1.
+fn too_little(random: &mut Random, needed: usize) -> usize {
+    match random.one_in(2) {
+        true => needed - 1,
+        false => random.below(needed),
+    }
+}

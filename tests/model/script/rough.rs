@@ -1,0 +1,177 @@
+//! Sections of any numbers at all, and of lines that are no calls.
+
+use super::{buffer, Script};
+use crate::calls::{hex, LONGEST_LINE};
+use crate::random::Random;
+
+/// One right line of each call.
+const SAMPLES: [&str; 17] = [
+    "rem 0fa20466",
+    "read 0da20f0330482f0a a1a2",
+    "write 15 162 5 48 03 a1a2a3a4a5a6a7a8a9aa",
+    "val.get 4 0080ff7f 1",
+    "val.put 4 -2 a1a2a3",
+    "cat 104 50",
+    "bench.new 15",
+    "bench.add 49 4 3",
+    "bench.set 49 -5",
+    "bench.tele 0d0fa2053003bce10a a1a2a3a4a5a6a7a8a9aa",
+    "bench.dump",
+    "desk.new",
+    "desk.open 7 15 4 102 - 100 3 9 a1a2a3a4a5a6a7a8a9aaabac",
+    "desk.reply 0da20f0330482f0a a1a2",
+    "desk.cancel 7 161 11",
+    "desk.expire 109",
+    "desk.dump",
+];
+
+/// Words that are wrong in some places or in all of them.
+const ODD_WORDS: [&str; 32] = [
+    "",
+    "-",
+    "--1",
+    "+1",
+    "-1",
+    "0x10",
+    "1.0",
+    "1e3",
+    "1_000",
+    "a",
+    "0A",
+    "FF",
+    "abc",
+    "0g",
+    "ok",
+    "\u{663}",
+    "007",
+    "-0",
+    "-00",
+    "255",
+    "256",
+    "65536",
+    "4294967295",
+    "4294967296",
+    "9223372036854775808",
+    "18446744073709551615",
+    "18446744073709551616",
+    "-9223372036854775808",
+    "-9223372036854775809",
+    "340282366920938463463374607431768211456",
+    "000000000000000000000000000000000000000000000000000000000001",
+    "99999999999999999999999999999999999999999999999999999999999",
+];
+
+/// Lines that are no calls, and numbers one past their type.
+const NO_CALLS: [&str; 18] = [
+    "",
+    " ",
+    "-",
+    "ok",
+    "desk",
+    "bench.",
+    "desk.",
+    "bench.new",
+    "REM 00",
+    "rem 0\u{0}",
+    "cat 256 16",
+    "cat 103 256",
+    "val.get 1 00 18446744073709551616",
+    "val.put 7 18446744073709551616 a1a2a3a4a5a6a7a8",
+    "val.put 7 -9223372036854775809 a1a2a3a4a5a6a7a8",
+    "desk.expire 4294967296",
+    "desk.cancel 4294967296 161 0",
+    "desk.open 1 15 4 102 - 100 4294967296 0 a1a2a3a4a5a6a7a8a9aaab",
+];
+
+/// Every call with numbers from all over their types.
+pub fn any_numbers(script: &mut Script) {
+    for _ in 0..9 {
+        let mut order: Vec<usize> = (0..17).collect();
+        script.random.shuffle(&mut order);
+        for which in order {
+            let line = any_call(&mut script.random, which);
+            script.call(line);
+        }
+    }
+}
+
+/// A call with words of any value.
+fn any_call(random: &mut Random, which: usize) -> String {
+    let (a, b, c, d) = (random.byte(), random.byte(), random.byte(), random.byte());
+    let (job, wait, folder, clock) = (random.word(), random.word(), random.word(), random.word());
+    let (bytes, buf) = (any_bytes(random), lent(random));
+    let value = i128::from(random.bits()) - i128::from(random.bits() / 2 * u64::from(b % 2));
+    let index = random.bits();
+    match which {
+        0 => format!("rem {bytes}"),
+        1 => format!("read {bytes} {buf}"),
+        2 => format!("write {a} {b} {c} {d} {bytes} {buf}"),
+        3 => format!("val.get {} {bytes} {index}", a % 9),
+        4 => format!("val.put {} {value} {buf}", a % 9),
+        5 => format!("cat {a} {b}"),
+        6 => format!("bench.new {a}"),
+        7 => format!("bench.add {a} {} {}", b % 9, c % 9),
+        8 => format!("bench.set {a} {value}"),
+        9 => format!("bench.tele {bytes} {buf}"),
+        10 => "bench.dump".to_string(),
+        11 => "desk.new".to_string(),
+        12 => format!("desk.open {job} {a} {} {c} {bytes} {} {folder} {clock} {buf}", b % 11, wait % 70000),
+        13 => format!("desk.reply {bytes} {buf}"),
+        14 => format!("desk.cancel {job} {a} {clock}"),
+        15 => format!("desk.expire {clock}"),
+        _ => "desk.dump".to_string(),
+    }
+}
+
+/// Up to 40 bytes of any value, as hex.
+fn any_bytes(random: &mut Random) -> String {
+    let length = random.below(41);
+    hex(&random.bytes(length))
+}
+
+/// A lent buffer of up to 40 bytes, as hex.
+fn lent(random: &mut Random) -> String {
+    hex(&buffer(random.below(41)))
+}
+
+/// Lines that are no calls, or nearly: each call's line with a word or a byte amiss, and the longest lines.
+pub fn bad_lines(script: &mut Script) {
+    for sample in SAMPLES.iter().cycle().take(17 * 5) {
+        let line = amiss(&mut script.random, sample);
+        script.call(line);
+    }
+    for line in NO_CALLS {
+        script.call(line);
+    }
+    for length in [LONGEST_LINE - 1, LONGEST_LINE, LONGEST_LINE + 1] {
+        let digits = length - "cat 103 ".len();
+        script.call(format!("cat 103 {:0digits$}", 16));
+    }
+    script.call(format!("rem {}", "5e".repeat(LONGEST_LINE / 2 - 2)));
+    script.call(format!("rem {}", "5e".repeat(LONGEST_LINE / 2 - 1)));
+}
+
+/// A right line with something amiss.
+fn amiss(random: &mut Random, sample: &str) -> Vec<u8> {
+    let mut words: Vec<&str> = sample.split(' ').collect();
+    let place = random.below(words.len());
+    let last = words.len() - 1;
+    match random.below(8) {
+        0 => words.insert(random.below(words.len() + 1), random.pick(&ODD_WORDS)),
+        1 => drop(words.remove(place)),
+        2 => words.push(words[place]),
+        3 | 4 => words[last - place / 2] = random.pick(&ODD_WORDS),
+        5 => words[place] = random.pick(&ODD_WORDS),
+        6 => return [sample.as_bytes(), random.pick(&[b" ", b"\r", b"\t", b"\0", b"\xff", b"0"])].concat(),
+        _ => return byte_amiss(random, sample),
+    }
+    words.join(" ").into_bytes()
+}
+
+/// A right line with one byte of it another, but no newline put in.
+fn byte_amiss(random: &mut Random, sample: &str) -> Vec<u8> {
+    let mut line = sample.as_bytes().to_vec();
+    let place = random.below(line.len());
+    line[place] = random.pick(b" -+0aAgG.\t\r\0\x80\xff");
+    line
+}
