@@ -6,7 +6,7 @@ use mathlib.Core.List.{List, [], _∷_}
 use mathlib.Core.Option.{Option, some, none}
 use Prim.Native.Nat.{ℕ, _+_, _-_, _%_, _^_, _≤_, _<_}
 use lib.Dec.{eqb, leb}
-use Rattle.rows.specs.Rows.{Row, row, test, firstOf}
+use Rattle.rows.specs.Rows.{Row, row, test, firstOf, Test}
 use Rattle.first.specs.First.{firstPlace}
 use Rattle.desk.specs.Ticket.{ticketAt, ticketOn, OpenOn, closedOn}
 use Rattle.desk.specs.declared.Ticket.{Ticket}
@@ -26,8 +26,11 @@ IsNotTheirs desk job address = OpenOn desk address × (ticketOn desk address .jo
 unfoldable pub cancelRows : Desk → ℕ → ℕ → List (Row Fault)
 cancelRows desk job address = row (IsNotTheirs desk job address) NotTheirs ∷ []
 
+abbrev pub cancelTests : Ticket → ℕ → List (Test Fault)
+cancelTests ticket job = test (not (ticket .live && eqb (ticket .job) job)) NotTheirs ∷ []
+
 unfoldable pub cancelRefusal : Desk → ℕ → ℕ → Option Fault
-cancelRefusal desk job address = firstOf (test (not (ticketOn desk address .live && eqb (ticketOn desk address .job) job)) NotTheirs ∷ [])
+cancelRefusal desk job address = firstOf (cancelTests (ticketOn desk address) job)
 
 -- ---- "Expire closes one ticket, the due one with the lowest address"
 
@@ -53,8 +56,11 @@ expireRows desk clock = row (IsNothingDue desk clock) NothingDue ∷ []
 unfoldable pub duePlace : Desk → ℕ → ℕ
 duePlace desk clock = firstPlace (λ place. isDue clock (ticketAt desk place)) 95
 
+abbrev pub expireTests : ℕ → List (Test Fault)
+expireTests place = test (leb 95 place) NothingDue ∷ []
+
 unfoldable pub expireRefusal : Desk → ℕ → Option Fault
-expireRefusal desk clock = firstOf (test (leb 95 (duePlace desk clock)) NothingDue ∷ [])
+expireRefusal desk clock = firstOf (expireTests (duePlace desk clock))
 
 -- ---- both answer job and address
 
@@ -77,3 +83,7 @@ abbrev pub Expires : Desk → ℕ → AfterClose → Type 0
 Expires desk clock r =
     (r .answer ≡ closeAnswer (expireRefusal desk clock) (ticketOn desk (161 + duePlace desk clock)) (161 + duePlace desk clock))
     × (r .desk ≡ closeDesk (expireRefusal desk clock) desk (161 + duePlace desk clock))
+
+-- `withdraw`: the ticket on the address is closed without a reply
+abbrev pub Withdraws : Desk → ℕ → AfterClose → Type 0
+Withdraws desk address r = (r .answer ≡ closeAnswer none (ticketOn desk address) address) × (r .desk ≡ closeDesk none desk address)

@@ -3,7 +3,7 @@
 use mathlib.Core.Path.{_≡_}
 use mathlib.Core.Logic.{_⊎_}
 use mathlib.Core.Bool.{Bool, true, not, _||_, _&&_}
-use mathlib.Core.List.{List, [], _∷_}
+use mathlib.Core.List.{List, [], _∷_, _++_}
 use mathlib.Core.Option.{Option, some, none}
 use Prim.Native.Nat.{ℕ, _+_, _%_, _≤_, _<_}
 use lib.Dec.{eqb, leb, ltb}
@@ -55,16 +55,22 @@ askRows job unit sort bytes wait =
     ∷ []
 
 -- how they are tested
+abbrev pub oneTo : ℕ → ℕ → Bool
+oneTo most x = leb 1 x && leb x most
+
 abbrev pub isRequest : ℕ → Bool
 isRequest sort = eqb sort 4 || (eqb sort 5 || (eqb sort 6 || (eqb sort 7 || eqb sort 9)))
+
+abbrev pub isWrongData : ℕ → ℕ → Bool
+isWrongData sort size = ltb 240 size || (eqb sort 4 && ltb 0 size)
 
 abbrev pub askTests : ℕ → ℕ → ℕ → List ℕ → ℕ → List (Test Fault)
 askTests job unit sort bytes wait =
     test (eqb job 0) NoJob
-    ∷ test (not (leb 1 unit && leb unit 160)) NotAModule
+    ∷ test (not (oneTo 160 unit)) NotAModule
     ∷ test (not (isRequest sort)) NotARequest
-    ∷ test (ltb 240 (length bytes) || (eqb sort 4 && ltb 0 (length bytes))) WrongData
-    ∷ test (not (leb 1 wait && leb wait 60000)) WrongWait
+    ∷ test (isWrongData sort (length bytes)) WrongData
+    ∷ test (not (oneTo 60000 wait)) WrongWait
     ∷ []
 
 -- what refuses a request before any address is looked for
@@ -87,9 +93,9 @@ givenPlace desk = placeFrom (desk .turn) (distanceOf desk)
 unfoldable pub givenAddress : Desk → ℕ
 givenAddress desk = 161 + givenPlace desk
 
--- "The request telegram is written with that address as source"
-abbrev pub requestFor : Desk → ℕ → ℕ → ℕ → List ℕ → List ℕ
-requestFor desk unit sort register bytes = telegramFor unit (givenAddress desk) sort register bytes
+-- "The request telegram is written with that address as source": the telegram of a ticket at a place
+abbrev pub requestAt : ℕ → Ticket → List ℕ → List ℕ
+requestAt place ticket bytes = telegramFor (ticket .unit) (161 + place) (ticket .sort) (ticket .register) bytes
 
 -- ---- rows 15 and 16
 
@@ -104,13 +110,18 @@ IsNoRoom telegram room = room < length telegram
 unfoldable pub placeRows : Desk → List ℕ → ℕ → List (Row Fault)
 placeRows desk telegram room = row (IsAllOpen desk) AllOpen ∷ row (IsNoRoom telegram room) NoRoom ∷ []
 
-abbrev pub placeTests : Desk → List ℕ → ℕ → List (Test Fault)
-placeTests desk telegram room = test (leb 95 (distanceOf desk)) AllOpen ∷ test (ltb room (length telegram)) NoRoom ∷ []
+abbrev pub placeTests : ℕ → List ℕ → ℕ → List (Test Fault)
+placeTests distance telegram room = test (leb 95 distance) AllOpen ∷ test (ltb room (length telegram)) NoRoom ∷ []
 
--- what refuses an opening, in the order 10 to 16
-unfoldable pub openRefusal : Desk → ℕ → ℕ → ℕ → ℕ → List ℕ → ℕ → ℕ → Option Fault
-openRefusal desk job unit sort register bytes wait room =
-    orLater (askRefusal job unit sort bytes wait) (firstOf (placeTests desk (requestFor desk unit sort register bytes) room))
+-- what refuses the opening of a ticket, in the order 10 to 16
+unfoldable pub openRefusal : Desk → Ticket → List ℕ → ℕ → Option Fault
+openRefusal desk ticket bytes room =
+    orLater (askRefusal (ticket .job) (ticket .unit) (ticket .sort) bytes (ticket .wait))
+    (firstOf (placeTests (distanceOf desk) (requestAt (givenPlace desk) ticket bytes) room))
+
+unfoldable pub openRows : Desk → Ticket → List ℕ → ℕ → List (Row Fault)
+openRows desk ticket bytes room =
+    askRows (ticket .job) (ticket .unit) (ticket .sort) bytes (ticket .wait) ++ placeRows desk (requestAt (givenPlace desk) ticket bytes) room
 
 -- ---- the answer, the desk and the buffer, each from the refusal
 
@@ -126,13 +137,20 @@ newTicket job unit sort register wait clock =
 abbrev pub withTicket : Desk → ℕ → Ticket → Desk
 withTicket desk place ticket = record { turn = (place + 1) % 95; tickets = set (desk .tickets) place ticket }
 
-abbrev pub openDesk : Option Fault → Desk → Ticket → Desk
-openDesk (some f) desk ticket = desk
-openDesk none desk ticket = withTicket desk (givenPlace desk) ticket
+abbrev pub openDesk : Option Fault → Desk → ℕ → Ticket → Desk
+openDesk (some f) desk place ticket = desk
+openDesk none desk place ticket = withTicket desk place ticket
 
 abbrev pub openRoom : Option Fault → List ℕ → List ℕ → List ℕ
 openRoom (some f) telegram room = room
 openRoom none telegram room = over telegram room
+
+-- an opening at a place, unless it is refused
+abbrev pub OpensAt : Option Fault → Desk → ℕ → Ticket → List ℕ → List ℕ → AfterOpen → List ℕ → Type 0
+OpensAt refusal desk place ticket bytes room r room′ =
+    (r .answer ≡ openAnswer refusal (161 + place) (length (requestAt place ticket bytes)))
+    × (r .desk ≡ openDesk refusal desk place ticket)
+    × (room′ ≡ openRoom refusal (requestAt place ticket bytes) room)
 
 -- ---- the contracts
 
@@ -147,6 +165,9 @@ Asks job unit sort bytes wait r = r ≡ askAnswer (askRefusal job unit sort byte
 -- `open`
 abbrev pub Opens : Desk → ℕ → ℕ → ℕ → ℕ → List ℕ → ℕ → ℕ → List ℕ → AfterOpen → List ℕ → Type 0
 Opens desk job unit sort register bytes wait clock room r room′ =
-    (r .answer ≡ openAnswer (openRefusal desk job unit sort register bytes wait (length room)) (givenAddress desk) (length (requestFor desk unit sort register bytes)))
-    × (r .desk ≡ openDesk (openRefusal desk job unit sort register bytes wait (length room)) desk (newTicket job unit sort register wait clock))
-    × (room′ ≡ openRoom (openRefusal desk job unit sort register bytes wait (length room)) (requestFor desk unit sort register bytes) room)
+    OpensAt (openRefusal desk (newTicket job unit sort register wait clock) bytes (length room)) desk (givenPlace desk) (newTicket job unit sort register wait clock) bytes room r room′
+
+-- `open_at`: rows 15 and 16 and the opening, at any distance from the turn
+abbrev pub PlacesAt : Desk → ℕ → Ticket → List ℕ → List ℕ → AfterOpen → List ℕ → Type 0
+PlacesAt desk distance ticket bytes room r room′ =
+    OpensAt (firstOf (placeTests distance (requestAt (placeFrom (desk .turn) distance) ticket bytes) (length room))) desk (placeFrom (desk .turn) distance) ticket bytes room r room′

@@ -3,7 +3,7 @@
 use mathlib.Core.Path.{_≡_}
 use mathlib.Core.Logic.{_≢_, _⊎_}
 use mathlib.Core.Bool.{Bool, cond, not, _||_, _&&_}
-use mathlib.Core.List.{List, [], _∷_}
+use mathlib.Core.List.{List, [], _∷_, _++_}
 use mathlib.Core.Option.{Option, some, none}
 use Prim.Native.Nat.{ℕ, _≤_}
 use lib.Dec.{eqb, leb}
@@ -11,7 +11,7 @@ use lib.ListN.{length}
 use Rattle.lent.specs.Lent.{over}
 use Rattle.rows.specs.Rows.{Row, row, Test, test, firstOf, orLater}
 use Rattle.frame.specs.Frame.{messageOf}
-use Rattle.telegram.specs.Read.{readRefusal, fieldsOf, dataOf}
+use Rattle.telegram.specs.Read.{readRefusal, fieldsOf, dataOf, readRows}
 use Rattle.telegram.specs.declared.Fault.{Fault as Unreadable}
 use Rattle.telegram.specs.declared.Fields.{Fields}
 use Rattle.desk.specs.Ticket.{ticketOn, OpenOn, closedOn}
@@ -19,6 +19,8 @@ use Rattle.desk.specs.declared.Ticket.{Ticket}
 use Rattle.desk.specs.declared.Desk.{Desk}
 use Rattle.desk.specs.declared.Fault.{Fault}
 use Rattle.desk.specs.declared.Fault.the-variants.{Unread, NoTicket, OtherModule, OtherKind, OtherRegister}
+use Rattle.desk.specs.declared.Judged.{Judged}
+use Rattle.desk.specs.declared.Judged.the-variants.{Fits, Misfit}
 use Rattle.desk.specs.declared.Booking.{Booking}
 use Rattle.desk.specs.declared.Booking.the-variants.{Booked, Refused}
 use Rattle.desk.specs.declared.AfterReply.{AfterReply}
@@ -60,10 +62,18 @@ bookRows desk t =
     ∷ row (IsOtherRegister desk t) OtherRegister
     ∷ []
 
+-- the reader's rows, each given as the desk's own refusal: "a refusal there ends the call"
+abbrev pub passedUp : List (Row Unreadable) → List (Row Fault)
+passedUp [] = []
+passedUp (r ∷ rs) = row (r .holds) (Unread (r .gives)) ∷ passedUp rs
+
+unfoldable pub replyRows : Desk → List ℕ → ℕ → List (Row Fault)
+replyRows desk frame room = passedUp (readRows frame room) ++ bookRows desk (fieldsOf (messageOf frame))
+
 -- ---- how they are tested
 
 abbrev pub kindFits : ℕ → ℕ → Bool
-kindFits asked answered = cond (eqb asked 4) (eqb answered 8) (eqb answered 3) || leb answered 2
+kindFits asked answered = leb answered 2 || cond (eqb asked 4) (eqb answered 8) (eqb answered 3)
 
 abbrev pub registerFits : ℕ → ℕ → ℕ → Bool
 registerFits asked answered register = eqb register asked || (leb answered 3 && eqb register 0)
@@ -75,6 +85,10 @@ bookTests ticket t =
     ∷ test (not (kindFits (ticket .sort) (t .sort))) OtherKind
     ∷ test (not (registerFits (ticket .register) (t .sort) (t .register))) OtherRegister
     ∷ []
+
+abbrev pub booked : Option Fault → Judged
+booked (some f) = Misfit f
+booked none = Fits
 
 unfoldable pub bookRefusal : Desk → Fields → Option Fault
 bookRefusal desk t = firstOf (bookTests (ticketOn desk (t .destination)) t)
