@@ -112,7 +112,7 @@ unfolding openRefusal givenPlace
 open-allowed desk ticket bytes room r room′ d e far p = rw e (rw far at p)
 
 -- the writer can only lack room
-only-room : (d s t r : ℕ) (bytes : List ℕ) (room : ℕ) → length bytes ≤ 240 → d ≢ 0 → s ≢ 0 → t ≤ 9
+pub only-room : (d s t r : ℕ) (bytes : List ℕ) (room : ℕ) → length bytes ≤ 240 → d ≢ 0 → s ≢ 0 → t ≤ 9
     → writeRefusal d s t r bytes room ≡ cond (ltb room (length (telegramFor d s t r bytes))) (some OverRoom) none
 unfolding writeRefusal
 only-room d s t r bytes room long hd hs ht = simp (le-ltb 240 (length bytes) long, ne-eqb d 0 hd, ne-eqb s 0 hs, le-ltb 9 t ht)

@@ -1,7 +1,7 @@
 -- Rows 10 to 22 are tested as 01 words them, in the order of each call: what a call refuses is what its rows give.
 -- Assumes nothing.
 use mathlib.Core.Path.{_≡_, refl, sym, ap, _∙_}
-use mathlib.Core.Bool.{Bool, true, false, not, true≢false}
+use mathlib.Core.Bool.{true, false, not, true≢false}
 use mathlib.Core.List.{List, [], _∷_}
 use mathlib.Core.Logic.{_⊎_, inl, inr, ⊎-elim}
 use mathlib.Core.Option.{Option, some, none}
@@ -11,7 +11,6 @@ use borrow.Author.Tests.{leb-true, leb-false, not-true, not-false}
 use lib.Dec.{leb}
 use lib.ListN.{length}
 use Rattle.first.proofs.Laws.{Ended, ended}
-use Rattle.first.specs.First.{firstPlace}
 use Rattle.frame.specs.Frame.{messageOf}
 use Rattle.rows.proofs.Laws.{Decides, decides-lt, decides-le, decides-eq, decides-not, decides-or, decides-and, decides-if, decides-set, decides-as, ranked, ranked-append}
 use Rattle.rows.specs.Rows.{Row, Ranked, firstOf}
@@ -21,7 +20,7 @@ use Rattle.telegram.specs.declared.Fault.{Fault as Unreadable}
 use Rattle.telegram.specs.declared.Fields.{Fields}
 use Rattle.desk.specs.Close.{IsNotTheirs, cancelRows, cancelRefusal, age, IsDue, isDue, IsNothingDue, expireRows, duePlace, expireRefusal, cancelTests, expireTests}
 use Rattle.desk.specs.Open.{IsNoJob, IsNotAModule, IsNotARequest, IsWrongData, IsWrongWait, askRows, oneTo, askTests, askRefusal, placeFrom, distanceOf, givenPlace, requestAt, IsAllOpen, IsNoRoom, placeRows, placeTests, openRefusal, openRows}
-use Rattle.desk.specs.Reply.{KindFits, RegisterFits, IsNoTicket, IsOtherModule, IsOtherKind, IsOtherRegister, bookRows, passedUp, replyRows, kindFits, bookTests, bookRefusal, unread, replyRefusal}
+use Rattle.desk.specs.Reply.{KindFits, RegisterFits, IsNoTicket, IsOtherModule, IsOtherKind, IsOtherRegister, bookRows, passedUp, replyRows, kindFits, bookTests, bookRefusal, unread, replyRefusal, registerFits}
 use Rattle.desk.specs.Ticket.{ticketAt, ticketOn}
 use Rattle.desk.specs.declared.Ticket.{Ticket}
 use Rattle.desk.specs.declared.Desk.{Desk}
@@ -64,25 +63,25 @@ ask-ranked job unit sort bytes wait =
 pub reached : (turn place : ℕ) → place < 95 → (k : ℕ) × (k < 95) × (placeFrom turn k ≡ place)
 reached turn place h = ((place + 95 - turn % 95) % 95, omega arith, omega arith)
 
+-- where the search from the turn has ended
+pub search-ended : (desk : Desk) → Ended (λ k. not (ticketAt desk (placeFrom (desk .turn) k) .live)) 95 (distanceOf desk)
+unfolding distanceOf
+search-ended desk = ended (λ k. not (ticketAt desk (placeFrom (desk .turn) k) .live)) 95
+
 decides-all-open : (desk : Desk) → Decides (leb 95 (distanceOf desk)) (IsAllOpen desk)
-unfolding distanceOf IsAllOpen
+unfolding IsAllOpen
 decides-all-open desk = record { so = all; not-so = some-free }
   where
-    free : ℕ → Bool
-    free k = not (ticketAt desk (placeFrom (desk .turn) k) .live)
-
-    e : Ended free 95 (firstPlace free 95)
-    e = ended free 95
-
-    all : leb 95 (firstPlace free 95) ≡ true → (place : ℕ) → place < 95 → ticketAt desk place .live ≡ true
+    all : leb 95 (distanceOf desk) ≡ true → (place : ℕ) → place < 95 → ticketAt desk place .live ≡ true
     all far place h =
         let k = reached (desk .turn) place h in
-        ap (λ (p : ℕ). ticketAt desk p .live) (sym (k .2)) ∙ not-false _ (e .before (k .0) (omega (arith, k .1, leb-true 95 (firstPlace free 95) far)))
+        ap (λ (p : ℕ). ticketAt desk p .live) (sym (k .2))
+        ∙ not-false _ (search-ended desk .before (k .0) (omega (arith, k .1, leb-true 95 (distanceOf desk) far)))
 
-    some-free : leb 95 (firstPlace free 95) ≡ false → ((place : ℕ) → place < 95 → ticketAt desk place .live ≡ true) → ⊥
+    some-free : leb 95 (distanceOf desk) ≡ false → ((place : ℕ) → place < 95 → ticketAt desk place .live ≡ true) → ⊥
     some-free near every =
-        let h : firstPlace free 95 < 95 = leb-false 95 (firstPlace free 95) near in
-        true≢false (sym (every (placeFrom (desk .turn) (firstPlace free 95)) (omega arith)) ∙ not-true _ (e .there h))
+        let h : distanceOf desk < 95 = leb-false 95 (distanceOf desk) near in
+        true≢false (sym (every (placeFrom (desk .turn) (distanceOf desk)) (omega arith)) ∙ not-true _ (search-ended desk .there h))
 
 pub open-ranked : (desk : Desk) (ticket : Ticket) (bytes : List ℕ) (room : ℕ) → Ranked (openRows desk ticket bytes room) (openRefusal desk ticket bytes room)
 unfolding openRows openRefusal placeRows IsNoRoom
@@ -104,15 +103,19 @@ to-two (suc zero) h = inr (inl refl)
 to-two (suc (suc zero)) h = inr (inr refl)
 to-two (suc (suc (suc n))) h = absurd (omega arith)
 
-decides-kind : (asked answered : ℕ) → Decides (kindFits asked answered) (KindFits asked answered)
+pub decides-kind : (asked answered : ℕ) → Decides (kindFits asked answered) (KindFits asked answered)
 unfolding KindFits
 decides-kind asked answered =
     decides-as (decides-or (decides-le answered 2) (decides-if (decides-eq asked 4) (decides-eq answered 8) (decides-eq answered 3)))
     (⊎-elim (λ a. inr (inr (to-two answered a))) (⊎-elim (λ a. inl a) (λ a. inr (inl a))))
     (⊎-elim (λ a. inr (inl a)) (⊎-elim (λ a. inr (inr a)) (λ a. inl (⊎-elim (λ e. omega arith) (⊎-elim (λ e. omega arith) (λ e. omega arith)) a))))
 
+pub decides-register : (asked answered register : ℕ) → Decides (registerFits asked answered register) (RegisterFits asked answered register)
+unfolding RegisterFits
+decides-register asked answered register = decides-or (decides-eq register asked) (decides-and (decides-le answered 3) (decides-eq register 0))
+
 pub book-ranked : (desk : Desk) (t : Fields) → Ranked (bookRows desk t) (bookRefusal desk t)
-unfolding bookRows bookRefusal IsNoTicket IsOtherModule IsOtherKind IsOtherRegister RegisterFits
+unfolding bookRows bookRefusal IsNoTicket IsOtherModule IsOtherKind IsOtherRegister
 book-ranked desk t =
     ranked (bookTests ticket t) (bookRows desk t) (
       decides-not (decides-set (ticket .live)),
@@ -127,7 +130,7 @@ book-ranked desk t =
               (
                 refl,
                 λ n₁₉. (
-                  decides-not (decides-or (decides-eq (t .register) (ticket .register)) (decides-and (decides-le (t .sort) 3) (decides-eq (t .register) 0))),
+                  decides-not (decides-register (ticket .register) (t .sort) (t .register)),
                   (refl, λ n₂₀. tt),
                 ),
               ),
@@ -162,26 +165,25 @@ cancel-ranked desk job address =
     ranked (cancelTests (ticketOn desk address) job) (cancelRows desk job address)
     (decides-not (decides-and (decides-set (ticketOn desk address .live)) (decides-eq (ticketOn desk address .job) job)), (refl, λ n₂₁. tt))
 
-decides-due : (clock : ℕ) (ticket : Ticket) → Decides (isDue clock ticket) (IsDue clock ticket)
+pub decides-due : (clock : ℕ) (ticket : Ticket) → Decides (isDue clock ticket) (IsDue clock ticket)
 decides-due clock ticket = decides-and (decides-set (ticket .live)) (decides-le (ticket .wait) (age clock (ticket .opened)))
 
+-- where the search for a due ticket has ended
+pub due-ended : (desk : Desk) (clock : ℕ) → Ended (λ k. isDue clock (ticketAt desk k)) 95 (duePlace desk clock)
+unfolding duePlace
+due-ended desk clock = ended (λ k. isDue clock (ticketAt desk k)) 95
+
 decides-nothing-due : (desk : Desk) (clock : ℕ) → Decides (leb 95 (duePlace desk clock)) (IsNothingDue desk clock)
-unfolding duePlace IsNothingDue
+unfolding IsNothingDue
 decides-nothing-due desk clock = record { so = nothing; not-so = some-due }
   where
-    due : ℕ → Bool
-    due k = isDue clock (ticketAt desk k)
+    nothing : leb 95 (duePlace desk clock) ≡ true → (place : ℕ) → place < 95 → IsDue clock (ticketAt desk place) → ⊥
+    nothing far place h = decides-due clock (ticketAt desk place) .not-so (due-ended desk clock .before place (omega (arith, leb-true 95 (duePlace desk clock) far)))
 
-    e : Ended due 95 (firstPlace due 95)
-    e = ended due 95
-
-    nothing : leb 95 (firstPlace due 95) ≡ true → (place : ℕ) → place < 95 → IsDue clock (ticketAt desk place) → ⊥
-    nothing far place h = decides-due clock (ticketAt desk place) .not-so (e .before place (omega (arith, leb-true 95 (firstPlace due 95) far)))
-
-    some-due : leb 95 (firstPlace due 95) ≡ false → ((place : ℕ) → place < 95 → IsDue clock (ticketAt desk place) → ⊥) → ⊥
+    some-due : leb 95 (duePlace desk clock) ≡ false → ((place : ℕ) → place < 95 → IsDue clock (ticketAt desk place) → ⊥) → ⊥
     some-due near nowhere =
-        let h : firstPlace due 95 < 95 = leb-false 95 (firstPlace due 95) near in
-        nowhere (firstPlace due 95) h (decides-due clock (ticketAt desk (firstPlace due 95)) .so (e .there h))
+        let h : duePlace desk clock < 95 = leb-false 95 (duePlace desk clock) near in
+        nowhere (duePlace desk clock) h (decides-due clock (ticketAt desk (duePlace desk clock)) .so (due-ended desk clock .there h))
 
 pub expire-ranked : (desk : Desk) (clock : ℕ) → Ranked (expireRows desk clock) (expireRefusal desk clock)
 unfolding expireRows expireRefusal

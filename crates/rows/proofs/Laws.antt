@@ -106,6 +106,19 @@ first-append {F} (t ∷ ts) us o e = go (t .tells) (first-append ts us o e)
     go true ih = refl
     go false ih = ih
 
+-- ---- where nothing refuses, no test tells
+
+pub never-both : {A : Type 0} (o : Option A) (x : A) → o ≡ some x → o ≡ none → ⊥
+never-both o x p q = let z : _≡_ {A = ℕ} 0 1 = cc in omega arith
+
+pub first-false : {F : Type 0} (t : Bool) (f : F) (o : Option F) → cond t (some f) o ≡ none → (t ≡ false) × (o ≡ none)
+first-false true f o e = absurd (never-both (some f) f refl e)
+first-false false f o e = (refl, e)
+
+pub or-none : {F : Type 0} (o later : Option F) → orLater o later ≡ none → (o ≡ none) × (later ≡ none)
+or-none none later e = (refl, e)
+or-none (some f) later e = absurd (never-both (some f) f refl e)
+
 -- ---- both directions: a refusal is given exactly when its row is the first that holds, and none exactly when no row does
 
 first-once : {F : Type 0} (rs : List (Row F)) {f g : F} → First rs f → First rs g → f ≡ g
