@@ -1,7 +1,7 @@
 -- From tests to rows, and both ways between a call's refusal and its rows.
 -- Assumes nothing.
 use mathlib.Core.Path.{_≡_, refl, sym, ap, _∙_, subst}
-use mathlib.Core.Bool.{Bool, true, false, cond, not, _||_, true≢false}
+use mathlib.Core.Bool.{Bool, true, false, cond, not, _||_, true≢false, _&&_}
 use mathlib.Core.List.{List, [], _∷_, _++_}
 use mathlib.Core.Logic.{_⊎_, inl, inr, ⊎-elim, _↔_}
 use mathlib.Core.Option.{Option, some, none}
@@ -36,6 +36,24 @@ decides-or {a} {b} p q = go a b p q
     go true b p q = record { so = λ e. inl (p .so refl); not-so = λ e. absurd (true≢false e) }
     go false b p q = record { so = λ e. inr (q .so e); not-so = λ e s. ⊎-elim (p .not-so refl) (q .not-so e) s }
 
+pub decides-and : {a b : Bool} {P Q : Type 0} → Decides a P → Decides b Q → Decides (a && b) (P × Q)
+decides-and {a} {b} p q = go a b p q
+  where
+    go : (a b : Bool) {P Q : Type 0} → Decides a P → Decides b Q → Decides (a && b) (P × Q)
+    go true b p q = record { so = λ e. (p .so refl, q .so e); not-so = λ e s. q .not-so e (s .1) }
+    go false b p q = record { so = λ e. absurd (true≢false (sym e)); not-so = λ e s. p .not-so refl (s .0) }
+
+pub decides-if : {c a b : Bool} {P Q R : Type 0} → Decides c P → Decides a Q → Decides b R → Decides (cond c a b) ((P × Q) ⊎ ((P → ⊥) × R))
+decides-if {c} {a} {b} p q r = go c a b p q r
+  where
+    go : (c a b : Bool) {P Q R : Type 0} → Decides c P → Decides a Q → Decides b R → Decides (cond c a b) ((P × Q) ⊎ ((P → ⊥) × R))
+    go true a b p q r = record { so = λ e. inl (p .so refl, q .so e); not-so = λ e s. ⊎-elim (λ h. q .not-so e (h .1)) (λ h. h .0 (p .so refl)) s }
+    go false a b p q r = record { so = λ e. inr (p .not-so refl, r .so e); not-so = λ e s. ⊎-elim (λ h. p .not-so refl (h .0)) (λ h. r .not-so e (h .1)) s }
+
+-- a flag decides that it is set
+pub decides-set : (b : Bool) → Decides b (b ≡ true)
+decides-set b = record { so = λ e. e; not-so = λ e h. true≢false (sym h ∙ e) }
+
 pub told-false : {b : Bool} {P : Type 0} → Decides b P → (P → ⊥) → b ≡ false
 told-false {b} {P} d n = go b d
   where
@@ -55,19 +73,28 @@ Fit [] (r ∷ rs) = ⊥
 Fit (t ∷ ts) [] = ⊥
 Fit (t ∷ ts) (r ∷ rs) = Decides (t .tells) (r .holds) × ((t .gives ≡ r .gives) × ((r .holds → ⊥) → Fit ts rs))
 
+-- a row that does not hold may stand before the others
+later : {F : Type 0} (r : Row F) (rs : List (Row F)) (o : Option F) → (r .holds → ⊥) → Ranked rs o → Ranked (r ∷ rs) o
+later r rs none n p = (n, p)
+later r rs (some f) n p = inr (n, p)
+
 pub ranked : {F : Type 0} (ts : List (Test F)) (rs : List (Row F)) → Fit ts rs → Ranked rs (firstOf ts)
 ranked [] [] fit = tt
 ranked [] (r ∷ rs) fit = absurd fit
 ranked (t ∷ ts) [] fit = absurd fit
 ranked {F} (t ∷ ts) (r ∷ rs) fit = by-test (t .tells) refl (firstOf ts) (λ n. ranked ts rs (fit .1 .1 n))
   where
-    later : (o : Option F) → (r .holds → ⊥) → Ranked rs o → Ranked (r ∷ rs) o
-    later none n p = (n, p)
-    later (some f) n p = inr (n, p)
-
     by-test : (b : Bool) → t .tells ≡ b → (o : Option F) → ((r .holds → ⊥) → Ranked rs o) → Ranked (r ∷ rs) (cond b (some (t .gives)) o)
     by-test true e o p = inl (fit .0 .so e, fit .1 .0)
-    by-test false e o p = let n : r .holds → ⊥ = fit .0 .not-so e in later o n (p n)
+    by-test false e o p = let n : r .holds → ⊥ = fit .0 .not-so e in later r rs o n (p n)
+
+-- the rows of two groups, one after the other
+pub ranked-append : {F : Type 0} (rs ss : List (Row F)) (o p : Option F) → Ranked rs o → (NoRow rs → Ranked ss p) → Ranked (rs ++ ss) (orLater o p)
+ranked-append [] ss none p here after = after here
+ranked-append [] ss (some f) p here after = absurd here
+ranked-append (r ∷ rs) ss none p here after = later r (rs ++ ss) p (here .0) (ranked-append rs ss none p (here .1) (λ n. after (here .0, n)))
+ranked-append (r ∷ rs) ss (some f) p here after =
+    ⊎-elim (λ a. inl a) (λ a. inr (a .0, ranked-append rs ss (some f) p (a .1) (λ n. after (a .0, n)))) here
 
 -- the tests of two groups, one after the other
 pub first-append : {F : Type 0} (ts us : List (Test F)) (o : Option F) → firstOf us ≡ o → firstOf (ts ++ us) ≡ orLater (firstOf ts) o
@@ -78,6 +105,19 @@ first-append {F} (t ∷ ts) us o e = go (t .tells) (first-append ts us o e)
         → cond b (some (t .gives)) (firstOf (ts ++ us)) ≡ orLater (cond b (some (t .gives)) (firstOf ts)) o
     go true ih = refl
     go false ih = ih
+
+-- ---- where nothing refuses, no test tells
+
+pub never-both : {A : Type 0} (o : Option A) (x : A) → o ≡ some x → o ≡ none → ⊥
+never-both o x p q = let z : _≡_ {A = ℕ} 0 1 = cc in omega arith
+
+pub first-false : {F : Type 0} (t : Bool) (f : F) (o : Option F) → cond t (some f) o ≡ none → (t ≡ false) × (o ≡ none)
+first-false true f o e = absurd (never-both (some f) f refl e)
+first-false false f o e = (refl, e)
+
+pub or-none : {F : Type 0} (o later : Option F) → orLater o later ≡ none → (o ≡ none) × (later ≡ none)
+or-none none later e = (refl, e)
+or-none (some f) later e = absurd (never-both (some f) f refl e)
 
 -- ---- both directions: a refusal is given exactly when its row is the first that holds, and none exactly when no row does
 

@@ -1,7 +1,7 @@
 -- What the groups of tests tell, and how the reader's answer is put together from them.
 -- Assumes nothing.
 use mathlib.Core.Path.{_≡_, refl, ap}
-use mathlib.Core.Bool.{Bool, true, false, cond, not, _||_, true≢false}
+use mathlib.Core.Bool.{Bool, true, false, not, _||_, true≢false}
 use mathlib.Core.List.{List}
 use mathlib.Core.Option.{Option, some, none}
 use mathlib.Core.Logic.{_≢_}
@@ -12,7 +12,8 @@ use borrow.Author.Tests.{ltb-false, eqb-true, not-false, le-ltb, eq-eqb, ne-eqb}
 use lib.Dec.{eqb, ltb}
 use lib.ListN.{length, take, drop, length-drop}
 use lib.Seq.{take-append-le, drop-append-le}
-use Rattle.rows.specs.Rows.{firstOf, orLater}
+use Rattle.rows.specs.Rows.{firstOf}
+use Rattle.rows.proofs.Laws.{or-none}
 use Rattle.lent.proofs.Laws.{over-is, take-over}
 use Rattle.lent.specs.Lent.{over}
 use Rattle.remainder.specs.Remainder.{remainderOf}
@@ -24,6 +25,8 @@ use Rattle.telegram.specs.declared.Fields.{Fields}
 use Rattle.telegram.specs.declared.Reading.{Reading}
 use Rattle.telegram.specs.declared.Reading.the-variants.{Telegram, Refused}
 use Rattle.telegram.specs.Read.{byte, notFramed, frameTests, lengthTests, messageTests, judged, readRefusal, fieldsOf, readAnswer, readFrame, messageRefusal, dataOf}
+-- both are of the rows, and whoever judges telegrams wants them too
+pub use Rattle.rows.proofs.Laws.{first-false, never-both}
 
 -- ---- one group
 
@@ -34,10 +37,6 @@ judged-sound (some f) e = cc
 pub judged-unsound : (o : Option Fault) (f : Fault) → Unsound f ≡ judged o → o ≡ some f
 judged-unsound none f e = cc
 judged-unsound (some g) f e = cc
-
-pub first-false : (t : Bool) (f : Fault) (o : Option Fault) → cond t (some f) o ≡ none → (t ≡ false) × (o ≡ none)
-first-false true f o e = absurd (let z : _≡_ {A = ℕ} 0 1 = cc in omega arith)
-first-false false f o e = (refl, e)
 
 pub framed-two : (frame : List ℕ) → notFramed frame ≡ false → 2 ≤ length frame
 framed-two frame e = go (ltb (length frame) 2) refl e
@@ -66,9 +65,6 @@ pub refused-reading : (frame : List ℕ) (room : ℕ) (f : Fault) → readRefusa
 unfolding readFrame
 refused-reading frame room f e = rw e
 
-pub never-both : {A : Type 0} (o : Option A) (x : A) → o ≡ some x → o ≡ none → ⊥
-never-both o x p q = let z : _≡_ {A = ℕ} 0 1 = cc in omega arith
-
 pub sound-reading : (frame bytes : List ℕ) (room : ℕ) (r : Reading) → firstOf (frameTests frame) ≡ none → bytes ≡ between frame
     → r ≡ readAnswer (messageRefusal (restored false bytes) room) (fieldsOf (restored false bytes)) → r ≡ readFrame frame room
 unfolding readFrame readRefusal messageOf
@@ -93,10 +89,6 @@ sound-length message part room n r e p u g =
     rw s (rw p at g)
 
 -- ---- and back: what the answer tells
-
-or-none : (o later : Option Fault) → orLater o later ≡ none → (o ≡ none) × (later ≡ none)
-or-none none later e = (refl, e)
-or-none (some f) later e = absurd (never-both (some f) f refl e)
 
 pub answer-refused : (o : Option Fault) (t : Fields) (f : Fault) → readAnswer o t ≡ Refused f → o ≡ some f
 answer-refused none t f e = cc

@@ -1,0 +1,213 @@
+-- What each return of the calls gives, over plain numbers, tickets and desks.
+-- Assumes nothing.
+use mathlib.Core.Path.{_≡_, refl, sym, ap, _∙_}
+use mathlib.Core.Bool.{Bool, true, false, cond, not, true≢false}
+use mathlib.Core.List.{List}
+use mathlib.Core.Logic.{_≢_, _⊎_, inl, inr, ⊎-elim}
+use mathlib.Core.Option.{Option, some, none}
+use Prim.Native.Nat.{ℕ, _+_, _-_, _%_, _^_, _≤_, _<_}
+use native.Mathlib.Omega.{arith}
+use native.Mathlib.Decide.{decLe}
+use borrow.Author.Tests.{leb-true, le-ltb, le-leb, lt-leb, eq-eqb, ne-eqb}
+use lib.Dec.{ltb, leb}
+use lib.ListN.{length}
+use Rattle.frame.specs.Frame.{messageOf}
+use Rattle.rows.proofs.Laws.{done-exactly}
+use Rattle.rows.specs.Rows.{firstOf}
+use Rattle.telegram.proofs.Judge.{reading-refused, reading-telegram}
+use Rattle.telegram.specs.Read.{readRefusal, fieldsOf, roomAfter, readFrame}
+use Rattle.telegram.specs.Write.{telegramFor, writeRefusal, writeAnswer, Writes}
+use Rattle.telegram.specs.declared.Fields.{Fields}
+use Rattle.telegram.specs.declared.Reading.{Reading}
+use Rattle.telegram.specs.declared.Reading.the-variants.{Telegram}
+use Rattle.telegram.specs.declared.Writing.{Writing}
+use Rattle.telegram.specs.declared.Writing.the-variants.{Written}
+use Rattle.telegram.specs.declared.Fault.{Fault as Unreadable}
+use Rattle.telegram.specs.declared.Fault.the-variants.{NoRoom as OverRoom}
+use Rattle.telegram.specs.declared.Reading.the-variants.{Refused as Unreading}
+use Rattle.telegram.specs.declared.Writing.the-variants.{Refused as NotWritten}
+use Rattle.first.proofs.Laws.{first-none, first-at}
+use Rattle.first.specs.First.{firstPlace}
+use Rattle.desk.proofs.Ranking.{ask-ranked}
+use Rattle.desk.specs.Close.{cancelRefusal, age, duePlace, expireRefusal}
+use Rattle.desk.specs.Open.{IsNotAModule, IsNotARequest, IsWrongData, askRows, askRefusal, placeFrom, distanceOf, givenPlace, requestAt, openRefusal, withTicket, OpensAt, askAnswer, PlacesAt}
+use Rattle.desk.specs.Reply.{bookTests, booked, bookRefusal, replyRefusal}
+use Rattle.desk.specs.Ticket.{noTicket, ticketAt, ticketOn}
+use Rattle.desk.specs.declared.Ticket.{Ticket}
+use Rattle.desk.specs.declared.Desk.{Desk}
+use Rattle.desk.specs.declared.Fault.{Fault}
+use Rattle.desk.specs.declared.Fault.the-variants.{NoRoom, Unread, NoTicket, NotTheirs, NothingDue}
+use Rattle.desk.specs.declared.Asking.the-variants.{Allowed, Denied}
+use Rattle.desk.specs.declared.Judged.the-variants.{Fits, Misfit}
+use Rattle.desk.specs.declared.Opening.the-variants.{Opened}
+use Rattle.desk.specs.declared.AfterOpen.{AfterOpen}
+use Rattle.desk.specs.declared.Opening.the-variants.{Refused}
+
+-- ---- tickets
+
+-- a live ticket stands on a host address
+pub live-host : (desk : Desk) (address : ℕ) → ticketOn desk address .live ≡ true → 161 ≤ address
+live-host desk address e = go (leb 161 address) refl e
+  where
+    go : (t : Bool) → leb 161 address ≡ t → cond t (ticketAt desk (address - 161)) noTicket .live ≡ true → 161 ≤ address
+    go true p q = leb-true 161 address p
+    go false p q = absurd (true≢false (sym q))
+
+-- what wrapping subtraction gives is the age
+pub age-is : (clock opened r : ℕ) → (r + opened) % 2 ^ 32 ≡ clock → r < 2 ^ 32 → opened < 2 ^ 32 → r ≡ age clock opened
+unfolding age
+age-is clock opened r e hr ho = omega arith
+
+-- a search that has passed all 95 places
+pub end-none : (fits : ℕ → Bool) (k : ℕ) → k ≤ 95 → 95 ≤ k → ((i : ℕ) → i < k → fits i ≡ false) → k ≡ firstPlace fits 95
+end-none fits k below above before = let e : k ≡ 95 = omega arith in e ∙ sym (first-none fits 95 (rw e at before))
+
+-- the search from the turn has come to a place without a ticket
+pub free-found : (desk : Desk) (k : ℕ) → k < 95 → ((i : ℕ) → i < k → not (ticketAt desk (placeFrom (desk .turn) i) .live) ≡ false)
+    → ticketAt desk (placeFrom (desk .turn) k) .live ≡ false → k ≡ distanceOf desk
+unfolding distanceOf
+free-found desk k h before free = sym (first-at (λ i. not (ticketAt desk (placeFrom (desk .turn) i) .live)) 95 k h before (rw free))
+
+-- ---- opening
+
+pub asked-denied : (o : Option Fault) (f : Fault) → Denied f ≡ askAnswer o → o ≡ some f
+asked-denied none f e = cc
+asked-denied (some g) f e = cc
+
+pub asked-allowed : (o : Option Fault) → Allowed ≡ askAnswer o → o ≡ none
+asked-allowed none e = refl
+asked-allowed (some g) e = cc
+
+-- a request that rows 10 to 14 let through is one that the writer takes
+pub allowed-writable : (job unit sort : ℕ) (bytes : List ℕ) (wait : ℕ) → askRefusal job unit sort bytes wait ≡ none
+    → (length bytes ≤ 240) × (unit ≢ 0) × (sort ≤ 9)
+unfolding askRows IsNotAModule IsNotARequest IsWrongData
+allowed-writable job unit sort bytes wait e =
+    let no = done-exactly (askRows job unit sort bytes wait) _ (ask-ranked job unit sort bytes wait) .0 e in (
+      ⊎-elim (λ h. h) (λ h. absurd (no .1 .1 .1 .0 (inl h))) (le-or-lt (length bytes) 240),
+      λ z. no .1 .0 (λ p. omega (arith, p .0)),
+      ⊎-elim (λ h. h) (λ h. absurd (no .1 .1 .0 (λ s. not-known sort h s))) (le-or-lt sort 9),
+    )
+  where
+    le-or-lt : (a b : ℕ) → (a ≤ b) ⊎ (b < a)
+    le-or-lt a b = by (decLe a b)
+      where
+        by : Dec (a ≤ b) → (a ≤ b) ⊎ (b < a)
+        by (yes h) = inl h
+        by (no h) = inr (omega arith)
+
+    not-known : (sort : ℕ) → 9 < sort → (sort ≡ 4) ⊎ ((sort ≡ 5) ⊎ ((sort ≡ 6) ⊎ ((sort ≡ 7) ⊎ (sort ≡ 9)))) → ⊥
+    not-known sort h =
+        ⊎-elim (λ e. omega arith) (⊎-elim (λ e. omega arith) (⊎-elim (λ e. omega arith) (⊎-elim (λ e. omega arith) (λ e. omega arith))))
+
+pub open-denied : (desk : Desk) (ticket : Ticket) (bytes : List ℕ) (room : ℕ) (f : Fault)
+    → askRefusal (ticket .job) (ticket .unit) (ticket .sort) bytes (ticket .wait) ≡ some f → openRefusal desk ticket bytes room ≡ some f
+unfolding openRefusal
+open-denied desk ticket bytes room f e = rw e
+
+pub open-allowed : (desk : Desk) (ticket : Ticket) (bytes room : List ℕ) (r : AfterOpen) (room′ : List ℕ) (d : ℕ)
+    → askRefusal (ticket .job) (ticket .unit) (ticket .sort) bytes (ticket .wait) ≡ none → d ≡ distanceOf desk
+    → PlacesAt desk d ticket bytes room r room′ → OpensAt (openRefusal desk ticket bytes (length room)) desk (givenPlace desk) ticket bytes room r room′
+unfolding openRefusal givenPlace
+open-allowed desk ticket bytes room r room′ d e far p = rw e (rw far at p)
+
+-- the writer can only lack room
+pub only-room : (d s t r : ℕ) (bytes : List ℕ) (room : ℕ) → length bytes ≤ 240 → d ≢ 0 → s ≢ 0 → t ≤ 9
+    → writeRefusal d s t r bytes room ≡ cond (ltb room (length (telegramFor d s t r bytes))) (some OverRoom) none
+unfolding writeRefusal
+only-room d s t r bytes room long hd hs ht = simp (le-ltb 240 (length bytes) long, ne-eqb d 0 hd, ne-eqb s 0 hs, le-ltb 9 t ht)
+
+module _ (desk : Desk) (d : ℕ) (ticket : Ticket) (bytes room room′ : List ℕ) (w : Writing) (near : d < 95)
+    (fit : (length bytes ≤ 240) × (ticket .unit ≢ 0) × (ticket .sort ≤ 9))
+    (writes : Writes (ticket .unit) (161 + placeFrom (desk .turn) d) (ticket .sort) (ticket .register) bytes room w room′) where
+  place : ℕ
+  place = placeFrom (desk .turn) d
+
+  Outcome : Bool → AfterOpen → Type 0
+  Outcome short r = OpensAt (cond short (some NoRoom) none) desk place ticket bytes room r room′
+
+  written : (r : AfterOpen) → ((short : Bool) → w ≡ writeAnswer (cond short (some OverRoom) none) (length (requestAt place ticket bytes))
+      → room′ ≡ roomAfter (cond short (some OverRoom) none) (requestAt place ticket bytes) room → Outcome short r)
+      → PlacesAt desk d ticket bytes room r room′
+  unfolding place Outcome
+  written r go =
+      let only = only-room (ticket .unit) (161 + placeFrom (desk .turn) d) (ticket .sort) (ticket .register) bytes (length room) (fit .0) (fit .1) (λ e. omega arith) (fit .2) in
+      rw (lt-leb 95 d near) (go (ltb (length room) (length (requestAt (placeFrom (desk .turn) d) ticket bytes))) (rw only at (writes .0)) (rw only at (writes .1)))
+
+  pub opened-at : (n : ℕ) (desk′ : Desk) → w ≡ Written n → desk′ ≡ withTicket desk (placeFrom (desk .turn) d) ticket
+      → PlacesAt desk d ticket bytes room (record { desk = desk′; answer = Opened (161 + placeFrom (desk .turn) d) n }) room′
+  unfolding place Outcome
+  opened-at n desk′ e laid = written _ go
+    where
+      go : (short : Bool) → w ≡ writeAnswer (cond short (some OverRoom) none) (length (requestAt place ticket bytes))
+          → room′ ≡ roomAfter (cond short (some OverRoom) none) (requestAt place ticket bytes) room
+          → Outcome short (record { desk = desk′; answer = Opened (161 + placeFrom (desk .turn) d) n })
+      go true p q = absurd (let z : _≡_ {A = ℕ} 0 1 = cc in omega arith)
+      go false p q = (ap (Opened (161 + placeFrom (desk .turn) d)) (let same : n ≡ length (requestAt place ticket bytes) = cc in same), laid, q)
+
+  pub no-room-at : (f : Unreadable) → w ≡ NotWritten f → PlacesAt desk d ticket bytes room (record { desk = desk; answer = Refused NoRoom }) room′
+  unfolding place Outcome
+  no-room-at f e = written _ go
+    where
+      go : (short : Bool) → w ≡ writeAnswer (cond short (some OverRoom) none) (length (requestAt place ticket bytes))
+          → room′ ≡ roomAfter (cond short (some OverRoom) none) (requestAt place ticket bytes) room
+          → Outcome short (record { desk = desk; answer = Refused NoRoom })
+      go true p q = (refl, refl, q)
+      go false p q = absurd (let z : _≡_ {A = ℕ} 0 1 = cc in omega arith)
+
+-- ---- a reply
+
+pub judged-misfit : (o : Option Fault) (f : Fault) → Misfit f ≡ booked o → o ≡ some f
+judged-misfit none f e = cc
+judged-misfit (some g) f e = cc
+
+pub judged-fits : (o : Option Fault) → Fits ≡ booked o → o ≡ none
+judged-fits none e = refl
+judged-fits (some g) e = cc
+
+-- what fits a ticket fits one that is live
+pub fits-live : (ticket : Ticket) (t : Fields) → firstOf (bookTests ticket t) ≡ none → ticket .live ≡ true
+fits-live ticket t e = go (ticket .live) _ e
+  where
+    go : (live : Bool) (later : Option Fault) → cond (not live) (some NoTicket) later ≡ none → live ≡ true
+    go true later p = refl
+    go false later p = cc
+
+pub reply-unread : (desk : Desk) (frame : List ℕ) (room : ℕ) (reading : Reading) (f : Unreadable)
+    → reading ≡ readFrame frame room → reading ≡ Unreading f → replyRefusal desk frame room ≡ some (Unread f)
+unfolding replyRefusal
+reply-unread desk frame room reading f p q = rw (reading-refused frame room f (sym p ∙ q))
+
+-- a telegram that was read is judged by its fields
+pub reply-judged : (desk : Desk) (frame : List ℕ) (room : ℕ) (reading : Reading) (t : Fields) (ticket : Ticket) (o : Option Fault)
+    → reading ≡ readFrame frame room → reading ≡ Telegram t → ticket ≡ ticketOn desk (t .destination) → firstOf (bookTests ticket t) ≡ o
+    → (readRefusal frame room ≡ none) × (t ≡ fieldsOf (messageOf frame)) × (replyRefusal desk frame room ≡ o)
+unfolding replyRefusal bookRefusal
+reply-judged desk frame room reading t ticket o p q on e =
+    let a = reading-telegram frame room t (sym p ∙ q) in
+    (a .0, a .1, rw (a .0, ← a .1, ← on) e)
+
+-- ---- cancelling and expiring
+
+pub cancel-theirs : (desk : Desk) (job address : ℕ) (ticket : Ticket) → ticket ≡ ticketOn desk address → ticket .live ≡ true → ticket .job ≡ job
+    → cancelRefusal desk job address ≡ none
+unfolding cancelRefusal
+cancel-theirs desk job address ticket on live theirs = rw (← on, live) (simp (eq-eqb (ticket .job) job theirs))
+
+pub cancel-other : (desk : Desk) (job address : ℕ) (ticket : Ticket) → ticket ≡ ticketOn desk address → ticket .live ≡ true → ticket .job ≢ job
+    → cancelRefusal desk job address ≡ some NotTheirs
+unfolding cancelRefusal
+cancel-other desk job address ticket on live other = rw (← on, live) (simp (ne-eqb (ticket .job) job other))
+
+pub cancel-none : (desk : Desk) (job address : ℕ) (ticket : Ticket) → ticket ≡ ticketOn desk address → ticket .live ≡ false
+    → cancelRefusal desk job address ≡ some NotTheirs
+unfolding cancelRefusal
+cancel-none desk job address ticket on dead = rw (← on, dead)
+
+pub expire-nothing : (desk : Desk) (clock k : ℕ) → k ≡ duePlace desk clock → 95 ≤ k → expireRefusal desk clock ≡ some NothingDue
+unfolding expireRefusal
+expire-nothing desk clock k e h = rw (← e) (simp (le-leb 95 k h))
+
+pub expire-due : (desk : Desk) (clock k : ℕ) → k ≡ duePlace desk clock → k < 95 → expireRefusal desk clock ≡ none
+unfolding expireRefusal
+expire-due desk clock k e h = rw (← e) (simp (lt-leb 95 k h))

@@ -1,0 +1,17 @@
+use native.Mathlib.Omega.{arith}
+use borrow.Author.Needs.{needs}
+use Rattle.desk.proofs.is_due.Statement.{statement}
+use Rattle.desk.proofs.Calls.{age-is}
+use Rattle.desk.proofs.is_due.Tie as tie
+
+wrapping-sub-u32-requires : tie.Need-wrapping-sub-u32-requires
+wrapping-sub-u32-requires c κs = search needs
+
+returns : tie.Need-returns
+returns c = rw (c .before .before .if1 .taken, ← age-is (c .before .before .before .args .clock) (c .before .before .before .args .ticket .opened) (c .before .wrapping-sub-u32 .result) (c .before .wrapping-sub-u32 .ensures) (omega arith) (omega arith))
+
+returns-2 : tie.Need-returns-2
+returns-2 c = search needs
+
+pub is-due-spec : {M : Type 1} → statement M
+is-due-spec = tie.close (tie.spec wrapping-sub-u32-requires returns returns-2)

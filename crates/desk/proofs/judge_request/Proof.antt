@@ -1,0 +1,57 @@
+use mathlib.Core.Path.{sym, _∙_}
+use borrow.Author.Needs.{needs}
+use borrow.Author.Tests.{eq-eqb, ne-eqb}
+use Rattle.desk.proofs.judge_request.Statement.{statement}
+use Rattle.desk.specs.Open.{askRefusal}
+use Rattle.desk.proofs.judge_request.Tie as tie
+
+returns : tie.Need-returns
+unfolding askRefusal
+returns c = rw (eq-eqb _ _ (c .if1 .taken))
+
+one-to-requires : tie.Need-one-to-requires
+one-to-requires c κs = search needs
+
+returns-2 : tie.Need-returns-2
+unfolding askRefusal
+returns-2 c = rw (ne-eqb _ _ (c .before .before .if1 .left), sym (c .before .one-to .ensures) ∙ c .if2 .left)
+
+is-request-requires : tie.Need-is-request-requires
+is-request-requires c κs = search needs
+
+returns-3 : tie.Need-returns-3
+unfolding askRefusal
+returns-3 c = rw (ne-eqb _ _ (c .before .before .before .before .if1 .left), sym (c .before .before .before .one-to .ensures) ∙ c .before .before .if2 .taken, sym (c .before .is-request .ensures) ∙ c .if3 .left)
+
+wrong-data-requires : tie.Need-wrong-data-requires
+wrong-data-requires c κs = search needs
+
+returns-4 : tie.Need-returns-4
+unfolding askRefusal
+returns-4 c = rw (ne-eqb _ _ (c .before .before .before .before .before .before .if1 .left), sym (c .before .before .before .before .before .one-to .ensures) ∙ c .before .before .before .before .if2 .taken, sym (c .before .before .before .is-request .ensures) ∙ c .before .before .if3 .taken, sym (c .before .wrong-data .ensures) ∙ c .if4 .taken)
+
+one-to-requires-2 : tie.Need-one-to-requires-2
+one-to-requires-2 c κs = search needs
+
+returns-5 : tie.Need-returns-5
+unfolding askRefusal
+returns-5 c = rw (ne-eqb _ _ (c .before .before .before .before .before .before .before .before .if1 .left), sym (c .before .before .before .before .before .before .before .one-to .ensures) ∙ c .before .before .before .before .before .before .if2 .taken, sym (c .before .before .before .before .before .is-request .ensures) ∙ c .before .before .before .before .if3 .taken, sym (c .before .before .before .wrong-data .ensures) ∙ c .before .before .if4 .left, sym (c .before .one-to2 .ensures) ∙ c .if5 .taken)
+
+returns-6 : tie.Need-returns-6
+unfolding askRefusal
+returns-6 c = rw (ne-eqb _ _ (c .before .before .before .before .before .before .before .before .if1 .left), sym (c .before .before .before .before .before .before .before .one-to .ensures) ∙ c .before .before .before .before .before .before .if2 .taken, sym (c .before .before .before .before .before .is-request .ensures) ∙ c .before .before .before .before .if3 .taken, sym (c .before .before .before .wrong-data .ensures) ∙ c .before .before .if4 .left, sym (c .before .one-to2 .ensures) ∙ c .if5 .left)
+
+pub judge-request-spec : {M : Type 1} → statement M
+judge-request-spec =
+    tie.close
+    (tie.spec
+    returns
+    one-to-requires
+    returns-2
+    is-request-requires
+    returns-3
+    wrong-data-requires
+    returns-4
+    one-to-requires-2
+    returns-5
+    returns-6)

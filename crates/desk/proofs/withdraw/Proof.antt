@@ -1,0 +1,16 @@
+use mathlib.Core.Path.{refl}
+use borrow.Author.Needs.{needs}
+use Rattle.desk.proofs.withdraw.Statement.{statement}
+use Rattle.desk.proofs.withdraw.Tie as tie
+
+ticket-on-requires : tie.Need-ticket-on-requires
+ticket-on-requires c κs = search needs
+
+closed-on-requires : tie.Need-closed-on-requires
+closed-on-requires c κs = search needs
+
+returns : tie.Need-returns
+returns c = rw (← c .before .ticket-on .ensures) (refl, c .closed-on .ensures)
+
+pub withdraw-spec : {M : Type 1} → statement M
+withdraw-spec = tie.close (tie.spec ticket-on-requires closed-on-requires returns)

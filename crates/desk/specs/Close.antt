@@ -1,0 +1,89 @@
+-- Cancelling and expiring: rows 21 and 22.
+-- Assumes nothing.
+use mathlib.Core.Path.{_≡_}
+use mathlib.Core.Bool.{Bool, true, not, _&&_}
+use mathlib.Core.List.{List, [], _∷_}
+use mathlib.Core.Option.{Option, some, none}
+use Prim.Native.Nat.{ℕ, _+_, _-_, _%_, _^_, _≤_, _<_}
+use lib.Dec.{eqb, leb}
+use Rattle.rows.specs.Rows.{Row, row, test, firstOf, Test}
+use Rattle.first.specs.First.{firstPlace}
+use Rattle.desk.specs.Ticket.{ticketAt, ticketOn, OpenOn, closedOn}
+use Rattle.desk.specs.declared.Ticket.{Ticket}
+use Rattle.desk.specs.declared.Desk.{Desk}
+use Rattle.desk.specs.declared.Fault.{Fault}
+use Rattle.desk.specs.declared.Fault.the-variants.{NotTheirs, NothingDue}
+use Rattle.desk.specs.declared.Closing.{Closing}
+use Rattle.desk.specs.declared.Closing.the-variants.{Closed, Refused}
+use Rattle.desk.specs.declared.AfterClose.{AfterClose}
+
+-- ---- "Cancel closes the ticket that is open on the address for that job now"
+
+-- 21: "that job has no ticket on that address"
+unfoldable pub IsNotTheirs : Desk → ℕ → ℕ → Type 0
+IsNotTheirs desk job address = OpenOn desk address × (ticketOn desk address .job ≡ job) → ⊥
+
+unfoldable pub cancelRows : Desk → ℕ → ℕ → List (Row Fault)
+cancelRows desk job address = row (IsNotTheirs desk job address) NotTheirs ∷ []
+
+abbrev pub cancelTests : Ticket → ℕ → List (Test Fault)
+cancelTests ticket job = test (not (ticket .live && eqb (ticket .job) job)) NotTheirs ∷ []
+
+unfoldable pub cancelRefusal : Desk → ℕ → ℕ → Option Fault
+cancelRefusal desk job address = firstOf (cancelTests (ticketOn desk address) job)
+
+-- ---- "Expire closes one ticket, the due one with the lowest address"
+
+-- "A ticket's age is the clock minus its opening, reduced modulo 4294967296"
+unfoldable pub age : ℕ → ℕ → ℕ
+age clock opened = (clock + 2 ^ 32 - opened) % 2 ^ 32
+
+-- "and it is due when the age is at least its waiting time"
+abbrev pub IsDue : ℕ → Ticket → Type 0
+IsDue clock ticket = (ticket .live ≡ true) × (ticket .wait ≤ age clock (ticket .opened))
+
+abbrev pub isDue : ℕ → Ticket → Bool
+isDue clock ticket = ticket .live && leb (ticket .wait) (age clock (ticket .opened))
+
+-- 22: "nothing due"
+unfoldable pub IsNothingDue : Desk → ℕ → Type 0
+IsNothingDue desk clock = (place : ℕ) → place < 95 → IsDue clock (ticketAt desk place) → ⊥
+
+unfoldable pub expireRows : Desk → ℕ → List (Row Fault)
+expireRows desk clock = row (IsNothingDue desk clock) NothingDue ∷ []
+
+-- the lowest place with a due ticket; 95 where there is none
+unfoldable pub duePlace : Desk → ℕ → ℕ
+duePlace desk clock = firstPlace (λ place. isDue clock (ticketAt desk place)) 95
+
+abbrev pub expireTests : ℕ → List (Test Fault)
+expireTests place = test (leb 95 place) NothingDue ∷ []
+
+unfoldable pub expireRefusal : Desk → ℕ → Option Fault
+expireRefusal desk clock = firstOf (expireTests (duePlace desk clock))
+
+-- ---- both answer job and address
+
+abbrev pub closeAnswer : Option Fault → Ticket → ℕ → Closing
+closeAnswer (some f) ticket address = Refused f
+closeAnswer none ticket address = Closed (ticket .job) address
+
+abbrev pub closeDesk : Option Fault → Desk → ℕ → Desk
+closeDesk (some f) desk address = desk
+closeDesk none desk address = closedOn desk address
+
+-- ---- the contracts
+
+abbrev pub Cancels : Desk → ℕ → ℕ → AfterClose → Type 0
+Cancels desk job address r =
+    (r .answer ≡ closeAnswer (cancelRefusal desk job address) (ticketOn desk address) address)
+    × (r .desk ≡ closeDesk (cancelRefusal desk job address) desk address)
+
+abbrev pub Expires : Desk → ℕ → AfterClose → Type 0
+Expires desk clock r =
+    (r .answer ≡ closeAnswer (expireRefusal desk clock) (ticketOn desk (161 + duePlace desk clock)) (161 + duePlace desk clock))
+    × (r .desk ≡ closeDesk (expireRefusal desk clock) desk (161 + duePlace desk clock))
+
+-- `withdraw`: the ticket on the address is closed without a reply
+abbrev pub Withdraws : Desk → ℕ → AfterClose → Type 0
+Withdraws desk address r = (r .answer ≡ closeAnswer none (ticketOn desk address) address) × (r .desk ≡ closeDesk none desk address)

@@ -1,0 +1,4 @@
+pub mod Ticket
+pub mod Open
+pub mod Reply
+pub mod Close
