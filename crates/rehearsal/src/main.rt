@@ -3,8 +3,12 @@
 mod numbers;
 mod say;
 mod telegrams;
+mod tickets;
 mod words;
 
+use crate::tickets::Told;
+use crate::words::Words;
+use desk::Desk;
 use libc::STDIN_FILENO;
 use libc::STDOUT_FILENO;
 ghost use Prim.Native.Nat.{_≤_};
@@ -13,10 +17,11 @@ ghost use lib.ListN.{length};
 // A line that is longer than this is a bad line.
 const LONGEST: usize = 8192;
 
-// What is gathered of the line that has not ended yet.
+// What is gathered of the line that has not ended yet, and what the calls so far have made.
 struct Gathered {
     used: usize,
     long: bool,
+    desk: Desk,
 }
 
 fn main() {
@@ -28,7 +33,7 @@ fn main() {
 // Reads chunk after chunk. The line and the answer have their space lent, once for all.
 fn run(line: &mut [u8], out: &mut [u8]) {
     let mut chunk = io::large_buffer();
-    let mut gathered = nothing();
+    let mut gathered = next_line(desk::fresh());
     let mut budget: u64 = 18446744073709551615;
     while 0 < budget {
         budget -= 1;
@@ -43,10 +48,12 @@ fn run(line: &mut [u8], out: &mut [u8]) {
     }
 }
 
-fn nothing() -> Gathered {
+// Nothing gathered yet, with the desk as it is.
+fn next_line(desk: Desk) -> Gathered {
     Gathered {
         used: 0,
         long: false,
+        desk: desk,
     }
 }
 
@@ -66,8 +73,7 @@ fn feed(chunk: &[u8], line: &mut [u8], out: &mut [u8], before: Gathered) -> Gath
 fn piece(part: &[u8], ends: bool, line: &mut [u8], out: &mut [u8], before: Gathered) -> Gathered {
     let gathered = gather(part, line, before);
     if ends {
-        end_line(line, gathered, out);
-        return nothing();
+        return next_line(end_line(line, gathered, out));
     }
     gathered
 }
@@ -92,38 +98,76 @@ fn gather(part: &[u8], line: &mut [u8], before: Gathered) -> Gathered {
     let used = before.used;
     lent::lay_at(part, line, used);
     let total = std::num::wrapping_add_usize(used, part.len());
-    Gathered {
-        used: if total < LONGEST { total } else { LONGEST },
-        long: if before.long { true } else { LONGEST < total },
-    }
-}
-
-fn end_line(line: &[u8], gathered: Gathered, out: &mut [u8]) {
-    let n = answer_to(line, gathered, out);
-    let at = say::text(out, n, b"\n");
-    show(out, at);
-}
-
-fn answer_to(line: &[u8], gathered: Gathered, out: &mut [u8]) -> usize {
-    let used = gathered.used;
-    if gathered.long {
-        return say::bad_line(out);
-    }
-    if used <= line.len() {
-        answer(&line[0..used], out)
+    let mut next = before;
+    if LONGEST < total {
+        next.used = LONGEST;
+        next.long = true;
     } else {
-        0
+        next.used = total;
     }
+    next
 }
 
-// One write for a whole answer.
+// Answers a line that has ended. One write for a whole answer.
+fn end_line(line: &[u8], gathered: Gathered, out: &mut [u8]) -> Desk {
+    let told = answer_to(line, gathered, out);
+    let at = say::text(out, told.at, b"\n");
+    show(out, at);
+    told.desk
+}
+
 fn show(out: &[u8], at: usize) {
     let n = telegrams::count(at as u64, out);
     io::write_all(STDOUT_FILENO, &out[..n]);
 }
 
-fn answer(line: &[u8], out: &mut [u8]) -> usize {
+fn answer_to(line: &[u8], gathered: Gathered, out: &mut [u8]) -> Told {
+    let used = gathered.used;
+    let desk = gathered.desk;
+    if gathered.long {
+        return Told {
+            desk: desk,
+            at: say::bad_line(out),
+        };
+    }
+    if used <= line.len() {
+        return answer(desk, &line[0..used], out);
+    }
+    Told { desk: desk, at: 0 }
+}
+
+// Which call it is: those on the desk, and those that keep nothing.
+fn answer(desk: Desk, line: &[u8], out: &mut [u8]) -> Told {
     let w = words::word(words::start(), line);
+    if words::is(w, line, b"desk.open") {
+        return tickets::open(desk, w, line, out);
+    }
+    if words::is(w, line, b"desk.reply") {
+        return tickets::reply(desk, w, line, out);
+    }
+    if words::is(w, line, b"desk.cancel") {
+        return tickets::cancel(desk, w, line, out);
+    }
+    if words::is(w, line, b"desk.expire") {
+        return tickets::expire(desk, w, line, out);
+    }
+    answer_more(desk, w, line, out)
+}
+
+fn answer_more(desk: Desk, w: Words, line: &[u8], out: &mut [u8]) -> Told {
+    if words::is(w, line, b"desk.new") {
+        return tickets::renew(desk, w, line, out);
+    }
+    if words::is(w, line, b"desk.dump") {
+        return tickets::dump(desk, w, line, out);
+    }
+    Told {
+        desk: desk,
+        at: answer_kept(w, line, out),
+    }
+}
+
+fn answer_kept(w: Words, line: &[u8], out: &mut [u8]) -> usize {
     if words::is(w, line, b"rem") {
         return telegrams::rem(w, line, out);
     }
