@@ -1,0 +1,4 @@
+pub mod Text
+pub mod Events
+pub mod Lines
+pub mod Step
