@@ -1,4 +1,3 @@
-pub mod Text
 pub mod Events
 pub mod Lines
 pub mod Step

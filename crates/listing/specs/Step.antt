@@ -3,7 +3,7 @@
 use mathlib.Core.Path.{_≡_}
 use mathlib.Core.Bool.{Bool, true, false, cond, _&&_}
 use mathlib.Core.List.{List, [], _++_}
-use Prim.Native.Nat.{ℕ, _+_, _-_, _%_, _^_}
+use Prim.Native.Nat.{ℕ, zero, suc, _+_, _-_, _%_, _^_}
 use lib.Dec.{eqb, leb, ltb}
 use lib.ListN.{length, getD, take, drop}
 use Rattle.lent.specs.Lent.{over}
@@ -40,7 +40,7 @@ afterEvent scan event inside start =
       start = start;
       ok = counted (scan .ok) (isOk event);
       refused = counted (scan .refused) (isRefused event);
-      dropped = counted (scan .dropped) (isDropped event)
+      dropped = counted (scan .dropped) (isDropped event);
     }
 
 -- the scan with no event: the byte is passed over, or opens a frame
@@ -57,21 +57,30 @@ unfoldable pub stepScan : Scan → List ℕ → Scan
 stepScan scan capture =
     cond (leb (length capture) (scan .place)) scan
     (cond (eqb (here scan capture) 13)
-      (cond (scan .inside) (afterEvent scan Dropped true (scan .place)) (passing scan true (scan .place)))
-      (cond (scan .inside && eqb (here scan capture) 10)
-        (afterEvent scan (readHere scan capture) false (scan .start))
-        (passing scan (scan .inside) (scan .start))))
+    (cond (scan .inside) (afterEvent scan Dropped true (scan .place)) (passing scan true (scan .place)))
+    (cond (scan .inside && eqb (here scan capture) 10)
+    (afterEvent scan (readHere scan capture) false (scan .start))
+    (passing scan (scan .inside) (scan .start))))
 
 unfoldable pub stepText : Scan → List ℕ → List ℕ
 stepText scan capture =
     cond (leb (length capture) (scan .place)) []
     (cond (eqb (here scan capture) 13)
-      (cond (scan .inside) (lineText (scan .start) Dropped) [])
-      (cond (scan .inside && eqb (here scan capture) 10) (lineText (scan .start) (readHere scan capture)) []))
+    (cond (scan .inside) (lineText (scan .start) Dropped) [])
+    (cond (scan .inside && eqb (here scan capture) 10) (lineText (scan .start) (readHere scan capture)) []))
 
 -- "Without an open frame there is no open line."
 unfoldable pub endText : Scan → List ℕ
 endText scan = cond (scan .inside) (lineText (scan .start) Open) [] ++ totalsText (scan .ok) (scan .refused) (scan .dropped)
+
+-- so many steps one after the other: the scan behind them, and their texts joined
+unfoldable pub scanAfter : ℕ → Scan → List ℕ → Scan
+scanAfter zero scan capture = scan
+scanAfter (suc n) scan capture = scanAfter n (stepScan scan capture) capture
+
+unfoldable pub textAfter : ℕ → Scan → List ℕ → List ℕ
+textAfter zero scan capture = []
+textAfter (suc n) scan capture = stepText scan capture ++ textAfter n (stepScan scan capture) capture
 
 -- ---- the contracts
 
@@ -80,3 +89,14 @@ Starts r = r ≡ startScan
 
 abbrev pub Steps : Scan → List ℕ → List ℕ → Stepped → List ℕ → Type 0
 Steps scan capture room r room′ = (r .scan ≡ stepScan scan capture) × (r .size ≡ length (stepText scan capture)) × (room′ ≡ over (stepText scan capture) room)
+
+-- a line of the open frame is written and counted; a 13 is looked at
+abbrev pub Tells : Scan → Event → Bool → ℕ → List ℕ → Stepped → List ℕ → Type 0
+Tells scan event inside start room r room′ =
+    (r .scan ≡ afterEvent scan event inside start) × (r .size ≡ length (lineText (scan .start) event)) × (room′ ≡ over (lineText (scan .start) event) room)
+
+abbrev pub Opens : Scan → List ℕ → Stepped → List ℕ → Type 0
+Opens scan room r room′ =
+    (r .scan ≡ cond (scan .inside) (afterEvent scan Dropped true (scan .place)) (passing scan true (scan .place)))
+    × (r .size ≡ length (cond (scan .inside) (lineText (scan .start) Dropped) []))
+    × (room′ ≡ over (cond (scan .inside) (lineText (scan .start) Dropped) []) room)

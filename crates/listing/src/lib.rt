@@ -1,5 +1,13 @@
 // The night listing: the frames of a captured line, one line of text for each, and the totals.
 // specs/ says what each line is. The program `night` only adds reading and writing.
+mod lines;
+mod steps;
+
+pub use lines::header;
+pub use lines::too_long;
+pub use steps::finish;
+pub use steps::start;
+pub use steps::step;
 
 // What became of a frame.
 pub enum Event {
