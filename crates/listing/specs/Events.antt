@@ -61,6 +61,13 @@ isDropped (Refused f) = 0
 isDropped Dropped = 1
 isDropped Open = 0
 
+-- an open frame is in none of the three
+abbrev pub isOpen : Event → ℕ
+isOpen (Read t) = 0
+isOpen (Refused f) = 0
+isOpen Dropped = 0
+isOpen Open = 1
+
 -- how many of these events count
 unfoldable pub total : (Event → ℕ) → List Placed → ℕ
 total counts [] = 0
