@@ -14,6 +14,7 @@ use lib.ListN.{length, getD, drop, length-append, take}
 use Rattle.telegram.specs.Read.{readFrame, faultNumber}
 use Rattle.telegram.specs.declared.Reading.{Reading}
 use Rattle.text.proofs.Laws.{decimal-short}
+use Rattle.lent.proofs.Laws.{length-over}
 use Rattle.listing.specs.declared.Event.{Event}
 use Rattle.listing.specs.declared.Event.the-variants.{Read, Refused, Dropped, Open}
 use Rattle.listing.specs.declared.Scan.{Scan}
@@ -301,6 +302,18 @@ end-short scan =
         → length (cond t (lineText (scan .start) Open) []) + length (totalsText (scan .ok) (scan .refused) (scan .dropped)) ≤ 250
     go true h = let l : length (lineText (scan .start) Open) ≤ 150 = line-short (scan .start) Open in omega arith
     go false h = omega arith
+
+pub header-short : length headerText ≤ 50
+unfolding headerText
+header-short = omega arith
+
+pub longer-short : length (headerText ++ longerText) ≤ 50
+unfolding headerText longerText
+longer-short = omega arith
+
+-- a text that fits the room stands in it whole
+pub writes-within : (text room : List ℕ) (r most : ℕ) (room′ : List ℕ) → Writes text room r room′ → length text ≤ most → most ≤ length room → r ≤ length room′
+writes-within text room r most room′ w short fits = rw (w .1, length-over text room) (omega (arith, w .0))
 
 -- ---- 01: "Show that any two outcomes allowed by it are equal."
 
