@@ -1,0 +1,4 @@
+pub mod Pieces
+pub mod Looking
+pub mod Events
+pub mod Laws

@@ -1,0 +1,78 @@
+-- How a text is put together from its pieces in a lent room.
+-- Assumes nothing.
+use mathlib.Core.Path.{_≡_, sym, ap, ap₂, _∙_}
+use mathlib.Core.List.{List, [], _∷_, _++_}
+use mathlib.Core.Bool.{true, false}
+use Prim.Native.Nat.{ℕ, _+_, _≤_}
+use native.Mathlib.Omega.{arith}
+use native.Mathlib.Nat.{zero-add}
+use lib.ListN.{length, length-append}
+use Rattle.lent.specs.Lent.{overAt}
+use Rattle.lent.proofs.Laws.{overAt-append, overAt-zero}
+use Rattle.text.specs.Text.{decimal, Spells, ascii}
+use Rattle.text.proofs.Laws.{decimal-short}
+use Rattle.telegram.specs.Read.{faultNumber}
+use Rattle.telegram.specs.declared.Fault.{Fault}
+use Rattle.listing.specs.declared.Event.{Event}
+use Rattle.listing.specs.Lines.{Puts, Writes, field, eventText, labelled, lineText, totalsText}
+use Rattle.listing.specs.Step.{endText}
+use Rattle.listing.specs.declared.Event.the-variants.{Refused, Open}
+use Rattle.listing.specs.declared.Scan.{Scan}
+
+-- a piece, and the next one at the place behind it
+pub puts-then : (x y : List ℕ) (at a b : ℕ) (room room₁ room₂ : List ℕ) → Puts x at room a room₁ → Puts y a room₁ b room₂ → Puts (x ++ y) at room b room₂
+puts-then x y at a b room room₁ room₂ p q = (count, laid)
+  where
+    count : b ≡ at + length (x ++ y)
+    count = let joined : length (x ++ y) ≡ length x + length y = length-append x y in omega (arith, p .0, q .0)
+
+    laid : room₂ ≡ overAt at (x ++ y) room
+    laid = q .1 ∙ ap₂ (λ (k : ℕ) (l : List ℕ). overAt k y l) (p .0) (p .1) ∙ overAt-append at x y room
+
+-- a text from the room's first byte on
+pub puts-writes : (text : List ℕ) (r : ℕ) (room room′ : List ℕ) → Puts text 0 room r room′ → Writes text room r room′
+puts-writes text r room room′ p = (p .0 ∙ zero-add (length text), p .1 ∙ overAt-zero text room)
+
+pub writes-puts : (text : List ℕ) (r : ℕ) (room room′ : List ℕ) → Writes text room r room′ → Puts text 0 room r room′
+writes-puts text r room room′ p = (p .0 ∙ sym (zero-add (length text)), p .1 ∙ sym (overAt-zero text room))
+
+-- ---- a number
+
+spelled-short : (n at r : ℕ) (room room′ : List ℕ) → Spells n at room r room′ → r ≤ 20
+spelled-short n at r room room′ s = let short : length (decimal n) ≤ 20 = decimal-short n in omega (arith, s .0)
+
+pub field-put : (n at a r : ℕ) (room room₁ room₂ : List ℕ) → Puts (32 ∷ []) at room a room₁ → Spells n a room₁ r room₂
+    → Puts (field n) at room (a + r) room₂ × (a + r ≤ at + 21)
+field-put n at a r room room₁ room₂ p s = (
+  puts-then (32 ∷ []) (decimal n) at a (a + r) room room₁ room₂ p (ap (λ (k : ℕ). a + k) (s .0), s .1),
+  omega (arith, p .0, spelled-short n a r room₁ room₂ s),
+)
+
+-- where the pieces before it end at most at 400, its end is a place too
+pub field-fits : (n a r : ℕ) (room room′ : List ℕ) → a ≤ 500 → Spells n a room r room′ → a + r ≤ 520
+field-fits n a r room room′ h s = omega (arith, spelled-short n a r room room′ s)
+
+-- ---- an event
+
+pub event-put : (event known : Event) (at r : ℕ) (room room′ : List ℕ) → event ≡ known → Puts (eventText known) at room r room′ → Puts (eventText event) at room r room′
+event-put event known at r room room′ e p = rw e p
+
+pub refused-put : (fault : Fault) (n at r : ℕ) (room room′ : List ℕ) → n ≡ faultNumber fault → Puts (labelled (ascii " refused") n) at room r room′
+    → Puts (eventText (Refused fault)) at room r room′
+refused-put fault n at r room room′ e p = rw (← e) p
+
+-- ---- the end
+
+pub end-open : (scan : Scan) (at r : ℕ) (room room₁ room₂ : List ℕ) → scan .inside ≡ true → Writes (lineText (scan .start) Open) room at room₁
+    → Puts (totalsText (scan .ok) (scan .refused) (scan .dropped)) at room₁ r room₂ → Writes (endText scan) room r room₂
+unfolding endText
+end-open scan at r room room₁ room₂ e p q =
+    rw e
+    (puts-writes (lineText (scan .start) Open ++ totalsText (scan .ok) (scan .refused) (scan .dropped)) r room room₂
+    (puts-then (lineText (scan .start) Open) (totalsText (scan .ok) (scan .refused) (scan .dropped)) 0 at r room room₁ room₂
+    (writes-puts (lineText (scan .start) Open) at room room₁ p) q))
+
+pub end-closed : (scan : Scan) (r : ℕ) (room room′ : List ℕ) → scan .inside ≡ false
+    → Puts (totalsText (scan .ok) (scan .refused) (scan .dropped)) 0 room r room′ → Writes (endText scan) room r room′
+unfolding endText
+end-closed scan r room room′ e p = rw e (puts-writes (totalsText (scan .ok) (scan .refused) (scan .dropped)) r room room′ p)

@@ -1,0 +1,67 @@
+use Rattle.listing.proofs.Pieces.{puts-then}
+use native.Mathlib.Omega.{arith}
+use mathlib.Core.List.{_++_}
+use Rattle.text.specs.Text.{ascii}
+use Rattle.listing.specs.Lines.{labelled, field}
+use borrow.Author.Needs.{needs}
+use Rattle.listing.proofs.lines.fields.Statement.{statement}
+use Rattle.listing.proofs.lines.fields.Tie as tie
+
+slice-aggregate-labelled : tie.Need-slice-aggregate-labelled
+slice-aggregate-labelled c = search needs
+
+cast-labelled : tie.Need-cast-labelled
+cast-labelled c = search needs
+
+labelled-requires : tie.Need-labelled-requires
+labelled-requires c κs = search needs
+
+cast-field : tie.Need-cast-field
+cast-field c = search needs
+
+field-requires : tie.Need-field-requires
+field-requires c κs = search needs
+
+cast-field-2 : tie.Need-cast-field-2
+cast-field-2 c = search needs
+
+field-requires-2 : tie.Need-field-requires-2
+field-requires-2 c κs = search needs
+
+cast-field-3 : tie.Need-cast-field-3
+cast-field-3 c = search needs
+
+field-requires-3 : tie.Need-field-requires-3
+field-requires-3 c κs = search needs
+
+field-requires-4 : tie.Need-field-requires-4
+field-requires-4 c κs = search needs
+
+same-length : tie.Need-same-length
+same-length c = search needs
+
+returns : tie.Need-returns
+returns c = (
+  puts-then (labelled (ascii " ok") (c .before .before .before .before .before .before .before .before .before .before .before .before .before .before .before .before .before .before .before .before .before .before .before .before .before .before .args .t .destination)) (field (c .before .before .before .before .before .before .before .before .before .before .before .before .before .before .before .before .before .before .before .before .before .before .before .before .before .before .args .t .source) ++ (field (c .before .before .before .before .before .before .before .before .before .before .before .before .before .before .before .before .before .before .before .before .before .before .before .before .before .before .args .t .sort) ++ (field (c .before .before .before .before .before .before .before .before .before .before .before .before .before .before .before .before .before .before .before .before .before .before .before .before .before .before .args .t .register) ++ field (c .before .before .before .before .before .before .before .before .before .before .before .before .before .before .before .before .before .before .before .before .before .before .before .before .before .before .args .t .size)))) _ _ _ _ _ _ (c .before .before .before .before .before .before .before .before .before .before .before .before .before .before .before .before .before .before .before .before .before .labelled .ensures .0)
+      (puts-then (field (c .before .before .before .before .before .before .before .before .before .before .before .before .before .before .before .before .before .before .before .before .before .before .before .before .before .before .args .t .source)) (field (c .before .before .before .before .before .before .before .before .before .before .before .before .before .before .before .before .before .before .before .before .before .before .before .before .before .before .args .t .sort) ++ (field (c .before .before .before .before .before .before .before .before .before .before .before .before .before .before .before .before .before .before .before .before .before .before .before .before .before .before .args .t .register) ++ field (c .before .before .before .before .before .before .before .before .before .before .before .before .before .before .before .before .before .before .before .before .before .before .before .before .before .before .args .t .size))) _ _ _ _ _ _ (c .before .before .before .before .before .before .before .before .before .before .before .before .before .before .before .before .field .ensures .0)
+      (puts-then (field (c .before .before .before .before .before .before .before .before .before .before .before .before .before .before .before .before .before .before .before .before .before .before .before .before .before .before .args .t .sort)) (field (c .before .before .before .before .before .before .before .before .before .before .before .before .before .before .before .before .before .before .before .before .before .before .before .before .before .before .args .t .register) ++ field (c .before .before .before .before .before .before .before .before .before .before .before .before .before .before .before .before .before .before .before .before .before .before .before .before .before .before .args .t .size)) _ _ _ _ _ _ (c .before .before .before .before .before .before .before .before .before .before .before .field2 .ensures .0)
+      (puts-then (field (c .before .before .before .before .before .before .before .before .before .before .before .before .before .before .before .before .before .before .before .before .before .before .before .before .before .before .args .t .register)) (field (c .before .before .before .before .before .before .before .before .before .before .before .before .before .before .before .before .before .before .before .before .before .before .before .before .before .before .args .t .size)) _ _ _ _ _ _ (c .before .before .before .before .before .before .field3 .ensures .0) (c .before .before .field4 .ensures .0)))),
+  omega (arith, c .before .before .before .before .before .before .before .before .before .before .before .before .before .before .before .before .before .before .before .before .before .before .before .before .before .before .pre, c .before .before .before .before .before .before .before .before .before .before .before .before .before .before .before .before .before .before .before .before .before .labelled .ensures .1, c .before .before .before .before .before .before .before .before .before .before .before .before .before .before .before .before .field .ensures .1, c .before .before .before .before .before .before .before .before .before .before .before .field2 .ensures .1, c .before .before .before .before .before .before .field3 .ensures .1, c .before .before .field4 .ensures .1),
+)
+
+pub fields-spec : {M : Type 1} → statement M
+fields-spec =
+    tie.close
+    (tie.spec
+    slice-aggregate-labelled
+    cast-labelled
+    labelled-requires
+    cast-field
+    field-requires
+    cast-field-2
+    field-requires-2
+    cast-field-3
+    field-requires-3
+    field-requires-4
+    same-length
+    returns)

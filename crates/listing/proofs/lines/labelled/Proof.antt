@@ -1,0 +1,21 @@
+use Rattle.listing.proofs.Pieces.{puts-then}
+use native.Mathlib.Omega.{arith}
+use Rattle.listing.specs.Lines.{field}
+use borrow.Author.Needs.{needs}
+use Rattle.listing.proofs.lines.labelled.Statement.{statement}
+use Rattle.listing.proofs.lines.labelled.Tie as tie
+
+word-requires : tie.Need-word-requires
+word-requires c κs = search needs
+
+field-requires : tie.Need-field-requires
+field-requires c κs = search needs
+
+same-length : tie.Need-same-length
+same-length c = search needs
+
+returns : tie.Need-returns
+returns c = (puts-then (c .before .before .before .before .before .before .before .before .before .before .args .text .now) (field (c .before .before .before .before .before .before .before .before .before .before .args .n)) _ _ _ _ _ _ (c .before .before .before .before .before .before .word .ensures) (c .before .before .field .ensures .0), omega arith)
+
+pub labelled-spec : {M : Type 1} → statement M
+labelled-spec = tie.close (tie.spec word-requires field-requires same-length returns)

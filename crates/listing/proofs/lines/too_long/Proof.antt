@@ -1,0 +1,36 @@
+use Rattle.listing.proofs.Pieces.{puts-then, puts-writes}
+use mathlib.Core.List.{_++_}
+use Rattle.listing.specs.Lines.{headerText, longerText}
+use borrow.Author.Needs.{needs}
+use Rattle.listing.proofs.lines.too_long.Statement.{statement}
+use Rattle.listing.proofs.lines.too_long.Tie as tie
+
+slice-aggregate-word : tie.Need-slice-aggregate-word
+slice-aggregate-word c = search needs
+
+word-requires : tie.Need-word-requires
+word-requires c κs = search needs
+
+slice-aggregate-word-2 : tie.Need-slice-aggregate-word-2
+slice-aggregate-word-2 c = search needs
+
+word-requires-2 : tie.Need-word-requires-2
+word-requires-2 c κs = search needs
+
+same-length : tie.Need-same-length
+same-length c = search needs
+
+returns : tie.Need-returns
+unfolding headerText longerText
+returns c = puts-writes (headerText ++ longerText) _ _ _ (puts-then headerText longerText _ _ _ _ _ _ (c .before .before .before .before .before .before .before .word .ensures) (c .before .before .word2 .ensures))
+
+pub too-long-spec : {M : Type 1} → statement M
+too-long-spec =
+    tie.close
+    (tie.spec
+    slice-aggregate-word
+    word-requires
+    slice-aggregate-word-2
+    word-requires-2
+    same-length
+    returns)

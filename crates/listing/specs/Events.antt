@@ -1,0 +1,74 @@
+-- What a captured line holds: "Bytes outside a frame are passed over. A 13 opens a frame, a second 13 drops it and opens another, a 10 closes
+-- it and it is read." So each 13 has one event, and the next 10 or 13 after it decides which.
+-- Assumes nothing.
+use mathlib.Core.Bool.{Bool, cond, _||_}
+use mathlib.Core.List.{List, [], _∷_, _++_}
+use Prim.Native.Nat.{ℕ, suc, _+_}
+use lib.Dec.{eqb, leb}
+use lib.ListN.{length, getD, take}
+use Rattle.telegram.specs.Read.{readFrame}
+use Rattle.telegram.specs.declared.Reading.{Reading}
+use Rattle.telegram.specs.declared.Reading.the-variants as reading
+use Rattle.listing.specs.declared.Event.{Event}
+use Rattle.listing.specs.declared.Event.the-variants.{Read, Refused, Dropped, Open}
+
+-- "The reader has 240 bytes of room here."
+abbrev pub readEvent : Reading → Event
+readEvent (reading.Telegram t) = Read t
+readEvent (reading.Refused f) = Refused f
+
+-- how many bytes stand before the next 10 or 13
+unfoldable pub toNextEnd : List ℕ → ℕ
+toNextEnd [] = 0
+toNextEnd (b ∷ rest) = cond (eqb b 10 || eqb b 13) 0 (suc (toNextEnd rest))
+
+-- the event of a 13, from what stands after it
+unfoldable pub eventOf : List ℕ → Event
+eventOf rest =
+    cond (leb (length rest) (toNextEnd rest)) Open
+    (cond (eqb (getD rest (toNextEnd rest) 0) 13) Dropped (readEvent (readFrame (13 ∷ take (suc (toNextEnd rest)) rest) 240)))
+
+-- an event and the place of its 13
+pub record Placed : Type 0 where
+  pub place : ℕ
+  pub event : Event
+
+-- the events of these bytes, the first of which stands at a place, in order of their places
+unfoldable pub eventsFrom : ℕ → List ℕ → List Placed
+eventsFrom place [] = []
+eventsFrom place (b ∷ rest) = cond (eqb b 13) (record { place = place; event = eventOf rest } ∷ []) [] ++ eventsFrom (suc place) rest
+
+unfoldable pub eventsOf : List ℕ → List Placed
+eventsOf capture = eventsFrom 0 capture
+
+-- ---- the three totals
+
+abbrev pub isOk : Event → ℕ
+isOk (Read t) = 1
+isOk (Refused f) = 0
+isOk Dropped = 0
+isOk Open = 0
+
+abbrev pub isRefused : Event → ℕ
+isRefused (Read t) = 0
+isRefused (Refused f) = 1
+isRefused Dropped = 0
+isRefused Open = 0
+
+abbrev pub isDropped : Event → ℕ
+isDropped (Read t) = 0
+isDropped (Refused f) = 0
+isDropped Dropped = 1
+isDropped Open = 0
+
+-- an open frame is in none of the three
+abbrev pub isOpen : Event → ℕ
+isOpen (Read t) = 0
+isOpen (Refused f) = 0
+isOpen Dropped = 0
+isOpen Open = 1
+
+-- how many of these events count
+unfoldable pub total : (Event → ℕ) → List Placed → ℕ
+total counts [] = 0
+total counts (e ∷ rest) = counts (e .event) + total counts rest

@@ -1,0 +1,63 @@
+-- The listing's exact text.
+-- Assumes nothing.
+use mathlib.Core.Path.{_≡_}
+use mathlib.Core.Bool.{cond}
+use mathlib.Core.List.{List, [], _∷_, _++_}
+use Prim.Native.Nat.{ℕ, _+_}
+use lib.Dec.{ltb}
+use lib.ListN.{length}
+use Rattle.lent.specs.Lent.{over, overAt}
+use Rattle.telegram.specs.Read.{faultNumber}
+use Rattle.listing.specs.declared.Event.{Event}
+use Rattle.listing.specs.declared.Event.the-variants.{Read, Refused, Dropped, Open}
+use Rattle.text.specs.Text.{ascii, newline, decimal}
+use Rattle.listing.specs.Events.{Placed, eventsOf, isOk, isRefused, isDropped, total}
+
+unfoldable pub headerText : List ℕ
+headerText = ascii "Interbus capture" ++ newline
+
+-- "A longer file gives the first line and then `longer than 65536 bytes`."
+unfoldable pub longerText : List ℕ
+longerText = ascii "longer than 65536 bytes" ++ newline
+
+-- a blank and a number
+abbrev pub field : ℕ → List ℕ
+field n = ascii " " ++ decimal n
+
+-- a word, and a number after it
+abbrev pub labelled : List ℕ → ℕ → List ℕ
+labelled word n = word ++ field n
+
+-- "The fields after ok are destination, source, type, register, data length."
+abbrev pub eventText : Event → List ℕ
+eventText (Read t) = labelled (ascii " ok") (t .destination) ++ (field (t .source) ++ (field (t .sort) ++ (field (t .register) ++ field (t .size))))
+eventText (Refused f) = labelled (ascii " refused") (faultNumber f)
+eventText Dropped = ascii " dropped"
+eventText Open = ascii " open"
+
+unfoldable pub lineText : ℕ → Event → List ℕ
+lineText place event = labelled (ascii "at") place ++ (eventText event ++ newline)
+
+unfoldable pub totalsText : ℕ → ℕ → ℕ → List ℕ
+totalsText ok refused dropped = labelled (ascii "ok") ok ++ (labelled (ascii " refused") refused ++ (labelled (ascii " dropped") dropped ++ newline))
+
+unfoldable pub linesText : List Placed → List ℕ
+linesText [] = []
+linesText (e ∷ rest) = lineText (e .place) (e .event) ++ linesText rest
+
+-- what the program writes for a capture
+unfoldable pub listingText : List ℕ → List ℕ
+listingText capture =
+    headerText
+    ++ cond (ltb 65536 (length capture)) longerText
+    (linesText (eventsOf capture)
+    ++ totalsText (total isOk (eventsOf capture)) (total isRefused (eventsOf capture)) (total isDropped (eventsOf capture)))
+
+-- ---- the contracts of the calls that write text: its length is answered, and it takes the room's first bytes, as much as there is room for
+
+abbrev pub Writes : List ℕ → List ℕ → ℕ → List ℕ → Type 0
+Writes text room r room′ = (r ≡ length text) × (room′ ≡ over text room)
+
+-- the same from a place on, for a piece of a text: the place behind it is answered
+abbrev pub Puts : List ℕ → ℕ → List ℕ → ℕ → List ℕ → Type 0
+Puts text at room r room′ = (r ≡ at + length text) × (room′ ≡ overAt at text room)

@@ -1,0 +1,93 @@
+// The listing's text, put together from fixed words and decimal numbers. Each piece answers the
+// place behind it, where the next one goes.
+use crate::Event;
+ghost use Rattle.listing.specs.Lines.{Puts, Writes, headerText, longerText, field as fieldText, labelled as labelledText, eventText, lineText, totalsText};
+ghost use mathlib.Core.List.{_++_};
+ghost use Prim.Native.Nat.{_+_, _≤_};
+ghost use lib.ListN.{length};
+
+// The first line. This call and the others that write text lay it over the room's first bytes, as
+// much of it as there is room for, and answer how long it is. The rest of the room stays.
+pub fn header(room: &mut [u8]) -> usize
+    ensures { λ r. ⌜ Writes headerText (now (room .entry)) r (now (room .exit)) ⌝ }
+{
+    word(b"Interbus capture\n", room, 0)
+}
+
+// The whole listing of a capture that is longer than 65536 bytes.
+pub fn too_long(room: &mut [u8]) -> usize
+    ensures { λ r. ⌜ Writes (headerText ++ longerText) (now (room .entry)) r (now (room .exit)) ⌝ }
+{
+    let at = word(b"Interbus capture\n", room, 0);
+    word(b"longer than 65536 bytes\n", room, at)
+}
+
+// The line of a frame.
+pub(crate) fn line(place: u64, event: Event, room: &mut [u8]) -> usize
+    ensures { λ r. ⌜ Writes (lineText place event) (now (room .entry)) r (now (room .exit)) × (r ≤ 150) ⌝ }
+{
+    let a = labelled(b"at", place, room, 0);
+    let b = event_at(event, room, a);
+    word(b"\n", room, b)
+}
+
+// The last line.
+pub(crate) fn totals(ok: u64, refused: u64, dropped: u64, room: &mut [u8], at: usize) -> usize
+    requires { ⌜ at ≤ 150 ⌝ }
+    ensures { λ r. ⌜ Puts (totalsText ok refused dropped) at (now (room .entry)) r (now (room .exit)) ⌝ }
+{
+    let a = labelled(b"ok", ok, room, at);
+    let b = labelled(b" refused", refused, room, a);
+    let c = labelled(b" dropped", dropped, room, b);
+    word(b"\n", room, c)
+}
+
+// What a line says of the frame, after its place.
+fn event_at(event: Event, room: &mut [u8], at: usize) -> usize
+    requires { ⌜ at ≤ 30 ⌝ }
+    ensures { λ r. ⌜ Puts (eventText event) at (now (room .entry)) r (now (room .exit)) × (r ≤ 149) ⌝ }
+{
+    match event {
+        Event::Read(t) => fields(t, room, at),
+        Event::Refused(fault) => labelled(b" refused", telegram::number(fault) as u64, room, at),
+        Event::Dropped => word(b" dropped", room, at),
+        Event::Open => word(b" open", room, at),
+    }
+}
+
+fn fields(t: telegram::Fields, room: &mut [u8], at: usize) -> usize
+    requires { ⌜ at ≤ 30 ⌝ }
+    ensures { λ r. ⌜ Puts (eventText (Event.Read t)) at (now (room .entry)) r (now (room .exit)) × (r ≤ 149) ⌝ }
+{
+    let a = labelled(b" ok", t.destination as u64, room, at);
+    let b = field(t.source as u64, room, a);
+    let c = field(t.sort as u64, room, b);
+    let d = field(t.register as u64, room, c);
+    field(t.size as u64, room, d)
+}
+
+// A word, and a number after a blank.
+fn labelled(text: &[u8], n: u64, room: &mut [u8], at: usize) -> usize
+    requires { ⌜ (at ≤ 300) × (length (now text) ≤ 8) ⌝ }
+    ensures { λ r. ⌜ Puts (labelledText (now (text .entry)) n) at (now (room .entry)) r (now (room .exit)) × (r ≤ at + 29) ⌝ }
+{
+    let a = word(text, room, at);
+    field(n, room, a)
+}
+
+// A blank and a number.
+fn field(n: u64, room: &mut [u8], at: usize) -> usize
+    requires { ⌜ at ≤ 400 ⌝ }
+    ensures { λ r. ⌜ Puts (fieldText n) at (now (room .entry)) r (now (room .exit)) × (r ≤ at + 21) ⌝ }
+{
+    let a = word(b" ", room, at);
+    a + text::decimal_at(n, room, a)
+}
+
+fn word(text: &[u8], room: &mut [u8], at: usize) -> usize
+    requires { ⌜ (at ≤ 500) × (length (now text) ≤ 30) ⌝ }
+    ensures { λ r. ⌜ Puts (now (text .entry)) at (now (room .entry)) r (now (room .exit)) ⌝ }
+{
+    lent::lay_at(text, room, at);
+    at + text.len()
+}

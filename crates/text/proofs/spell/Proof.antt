@@ -1,0 +1,68 @@
+use Prim.Native.Nat.{ℕ, _+_, _<_, _^_}
+use mathlib.Core.Path.{_≡_, refl, sym, ap, _∙_}
+use lib.ListN.{length, length-set}
+use borrow.Author.Needs.{needs}
+use native.Mathlib.Omega.{arith}
+use Rattle.text.proofs.Laws.{Spelt, spelt-none, spelt-more, spelt-last, rest-fits, more-left}
+use Rattle.text.proofs.spell.Statement.{statement}
+use Rattle.text.proofs.spell.Tie as tie
+use Rattle.text.proofs.spell.Reads as reads
+use Rattle.text.proofs.spell.Lts as lts
+use Rattle.text.proofs.digit.Reads as digit-reads
+
+abbrev Inv-loop : tie.InvT-loop
+Inv-loop n digits₀ i₀ rest₀ digits i rest = (i < 20) × (length digits ≡ length digits₀) × (rest < 10 ^ (i + 1)) × Spelt digits i rest n
+
+abbrev μ-loop : tie.MeasureT-loop
+μ-loop n digits₀ i₀ rest₀ digits i rest = rest
+
+sub-i : tie.Need-sub-i Inv-loop μ-loop
+sub-i c = search needs
+
+loop-holds : tie.Need-loop-holds Inv-loop μ-loop
+loop-holds c = (search needs, search needs, search needs, spelt-none (c .before .args .digits .now) (c .before .args .n) (c .before .pre))
+
+digit-requires : tie.Need-digit-requires Inv-loop μ-loop
+digit-requires c κs = search needs
+
+slice-write-digits : tie.Need-slice-write-digits Inv-loop μ-loop
+slice-write-digits c = search needs
+
+sub-i-2 : tie.Need-sub-i-2 Inv-loop μ-loop
+sub-i-2 c = let lo = more-left (c .before .before .loop .i) (c .before .before .loop .rest) (c .before .before .loop .inv .2) (c .before .loop-test .taken) in search needs
+
+loop-less : tie.Need-loop-less Inv-loop μ-loop
+loop-less c = search needs
+
+loop-again : tie.Need-loop-again Inv-loop μ-loop
+loop-again c = (search needs, search needs, rest-fits _ _ (more-left (c .before .before .loop .i) (c .before .before .loop .rest) (c .before .before .loop .inv .2) (c .before .loop-test .taken)) (c .before .before .loop .inv .2), spelt-more (c .before .before .loop .digits) _ (c .before .before .loop .i) _ _ _ (more-left (c .before .before .loop .i) (c .before .before .loop .rest) (c .before .before .loop .inv .2) (c .before .loop-test .taken)) (search needs) (c .before .loop-test .taken) (c .digit .ensures) refl (c .before .before .loop .inv .3))
+
+digit-requires-2 : tie.Need-digit-requires-2 Inv-loop μ-loop
+digit-requires-2 c κs = search needs
+
+slice-write-digits-2 : tie.Need-slice-write-digits-2 Inv-loop μ-loop
+slice-write-digits-2 c = search needs
+
+same-length : tie.Need-same-length Inv-loop μ-loop
+same-length c = search needs
+
+returns : tie.Need-returns Inv-loop μ-loop
+returns c = (search needs, simp length-set (c .before .before .loop .inv .1 ∙ c .before .before .before .before .pre), spelt-last (c .before .before .loop .digits) _ (c .before .before .loop .i) _ _ _ (search needs) (c .before .loop-test .left) (c .digit2 .ensures) refl (c .before .before .loop .inv .3))
+
+pub spell-spec : {M : Type 1} → statement M
+spell-spec =
+    tie.close
+    (tie.spec
+    Inv-loop
+    μ-loop
+    sub-i
+    loop-holds
+    digit-requires
+    slice-write-digits
+    sub-i-2
+    loop-less
+    loop-again
+    digit-requires-2
+    slice-write-digits-2
+    same-length
+    returns)
