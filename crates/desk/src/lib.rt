@@ -320,7 +320,9 @@ fn judge_reply(ticket: Ticket, t: telegram::Fields) -> Judged
     if ticket.live {} else {
         return Judged::Misfit(Fault::NoTicket);
     }
-    if t.source != ticket.unit {
+    let source = t.source;
+    let unit = ticket.unit;
+    if source != unit {
         return Judged::Misfit(Fault::OtherModule);
     }
     if kind_fits(ticket.sort, t.sort) {} else {
