@@ -68,7 +68,7 @@ pub record Given (desk : Desk) (address : ℕ) (desk′ : Desk) : Type 0 where
 pub on-host : (desk : Desk) (place : ℕ) → ticketOn desk (161 + place) ≡ ticketAt desk place
 on-host desk place = let p : 161 + place - 161 ≡ place = omega arith in rw (le-leb 161 (161 + place) (omega arith), p)
 
-given-at : (desk : Desk) (ticket : Ticket) → distanceOf desk < 95 → Given desk (161 + givenPlace desk) (withTicket desk (givenPlace desk) ticket)
+pub given-at : (desk : Desk) (ticket : Ticket) → distanceOf desk < 95 → Given desk (161 + givenPlace desk) (withTicket desk (givenPlace desk) ticket)
 unfolding givenPlace
 given-at desk ticket near =
     let e = search-ended desk in
@@ -82,6 +82,18 @@ given-at desk ticket near =
       turn-after = let p : 161 + placeFrom (desk .turn) (distanceOf desk) - 161 ≡ placeFrom (desk .turn) (distanceOf desk) = omega arith in rw p;
     }
 
+-- what no row refuses fits
+pub fit-to-open : (desk : Desk) (ticket : Ticket) (bytes : List ℕ) (room : ℕ) → openRefusal desk ticket bytes room ≡ none
+    → (askRefusal (ticket .job) (ticket .unit) (ticket .sort) bytes (ticket .wait) ≡ none) × (distanceOf desk < 95)
+    × (length (requestAt (givenPlace desk) ticket bytes) ≤ room)
+unfolding openRefusal
+fit-to-open desk ticket bytes room e =
+    let request : List ℕ = requestAt (givenPlace desk) ticket bytes in
+    let a = or-none (askRefusal (ticket .job) (ticket .unit) (ticket .sort) bytes (ticket .wait)) (firstOf (placeTests (distanceOf desk) request room)) e in
+    let b = first-false (leb 95 (distanceOf desk)) AllOpen _ (a .1) in
+    let d = first-false (ltb room (length request)) NoRoom _ (b .1) in
+    (a .0, leb-false _ _ (b .0), ltb-false _ _ (d .0))
+
 -- of what opening answers, by its contract
 module _ (desk : Desk) (job unit sort register : ℕ) (bytes : List ℕ) (wait clock : ℕ) (room : List ℕ) (r : AfterOpen) (room′ : List ℕ)
     (opens : Opens desk job unit sort register bytes wait clock room r room′) where
@@ -92,20 +104,11 @@ module _ (desk : Desk) (job unit sort register : ℕ) (bytes : List ℕ) (wait c
       → (openRefusal desk asked bytes (length room) ≡ none) × (address ≡ 161 + givenPlace desk) × (n ≡ length (requestAt (givenPlace desk) asked bytes))
   opened-fit address n e = opened-told _ _ _ address n (sym e ∙ opens .0)
 
-  fit-to-open : openRefusal desk asked bytes (length room) ≡ none
-      → (askRefusal job unit sort bytes wait ≡ none) × (distanceOf desk < 95) × (length (requestAt (givenPlace desk) asked bytes) ≤ length room)
-  unfolding openRefusal
-  fit-to-open e =
-      let a = or-none (askRefusal job unit sort bytes wait) (firstOf (placeTests (distanceOf desk) (requestAt (givenPlace desk) asked bytes) (length room))) e in
-      let b = first-false (leb 95 (distanceOf desk)) AllOpen _ (a .1) in
-      let d = first-false (ltb (length room) (length (requestAt (givenPlace desk) asked bytes))) NoRoom _ (b .1) in
-      (a .0, leb-false _ _ (b .0), ltb-false _ _ (d .0))
-
   pub opened-given : (address n : ℕ) → r .answer ≡ Opened address n → Given desk address (r .desk)
   opened-given address n e =
       let a = opened-fit address n e in
       let there : r .desk ≡ withTicket desk (givenPlace desk) asked = opens .1 ∙ rw (a .0) in
-      rw (a .1, there) (given-at desk asked (fit-to-open (a .0) .1))
+      rw (a .1, there) (given-at desk asked (fit-to-open desk asked bytes (length room) (a .0) .1))
 
   -- 01: "The request telegram is written with that address as source, into the first bytes of the lent buffer": read with room for the
   -- data, it gives back what was asked
@@ -114,7 +117,7 @@ module _ (desk : Desk) (job unit sort register : ℕ) (bytes : List ℕ) (wait c
       → (a ≡ Telegram (fieldsFor unit address sort register bytes)) × (buffer′ ≡ over bytes buffer)
   request-reads-back address n e buffer a buffer′ h reads =
       let o = opened-fit address n e in
-      let fit = fit-to-open (o .0) in
+      let fit = fit-to-open desk asked bytes (length room) (o .0) in
       let can = allowed-writable job unit sort bytes wait (fit .0) in
       let wrote : writeRefusal unit address sort register bytes (length room) ≡ none =
       only-room unit address sort register bytes (length room) (can .0) (can .1) (λ z. omega (arith, o .1)) (can .2)
@@ -178,31 +181,47 @@ unread-none : (o : Option Unreadable) → unread o ≡ none → o ≡ none
 unread-none none e = refl
 unread-none (some f) e = absurd (never-both (some (Unread f)) (Unread f) refl e)
 
+pub fit-to-book : (desk : Desk) (frame : List ℕ) (room : ℕ) → replyRefusal desk frame room ≡ none
+    → (readRefusal frame room ≡ none)
+    × OpenOn desk (fieldsOf (messageOf frame) .destination)
+    × (fieldsOf (messageOf frame) .source ≡ ticketOn desk (fieldsOf (messageOf frame) .destination) .unit)
+    × KindFits (ticketOn desk (fieldsOf (messageOf frame) .destination) .sort) (fieldsOf (messageOf frame) .sort)
+    × RegisterFits (ticketOn desk (fieldsOf (messageOf frame) .destination) .register) (fieldsOf (messageOf frame) .sort) (fieldsOf (messageOf frame) .register)
+unfolding replyRefusal bookRefusal
+fit-to-book desk frame room e =
+    let t : Fields = fieldsOf (messageOf frame) in
+    let ticket : Ticket = ticketOn desk (t .destination) in
+    let a = or-none (unread (readRefusal frame room)) (bookRefusal desk t) e in
+    let on = first-false (not (ticket .live)) NoTicket _ (a .1) in
+    let unit = first-false (not (eqb (t .source) (ticket .unit))) OtherModule _ (on .1) in
+    let kind = first-false (not (kindFits (ticket .sort) (t .sort))) OtherKind _ (unit .1) in
+    let register = first-false (not (registerFits (ticket .register) (t .sort) (t .register))) OtherRegister _ (kind .1) in (
+      unread-none (readRefusal frame room) (a .0),
+      not-false _ (on .0),
+      eqb-true _ _ (not-false _ (unit .0)),
+      decides-kind (ticket .sort) (t .sort) .so (not-false _ (kind .0)),
+      decides-register (ticket .register) (t .sort) (t .register) .so (not-false _ (register .0)),
+    )
+
 module _ (desk : Desk) (frame room : List ℕ) (r : AfterReply) (room′ : List ℕ) (replies : Replies desk frame room r room′) where
   pub booked-right : (job address sort n : ℕ) → r .answer ≡ Booked job address sort n
       → Books desk frame (length room) (fieldsOf (messageOf frame)) job address sort n (r .desk) × (room′ ≡ over (dataOf (messageOf frame)) room)
-  unfolding replyRefusal bookRefusal readFrame
+  unfolding readFrame
   booked-right job address sort n e =
       let t : Fields = fieldsOf (messageOf frame) in
-      let ticket : Ticket = ticketOn desk (t .destination) in
-      let b = booked-told (replyRefusal desk frame (length room)) ticket t job address sort n (sym e ∙ replies .0) in
-      let a = or-none (unread (readRefusal frame (length room))) (bookRefusal desk t) (b .0) in
-      let read : readRefusal frame (length room) ≡ none = unread-none (readRefusal frame (length room)) (a .0) in
-      let on = first-false (not (ticket .live)) NoTicket _ (a .1) in
-      let unit = first-false (not (eqb (t .source) (ticket .unit))) OtherModule _ (on .1) in
-      let kind = first-false (not (kindFits (ticket .sort) (t .sort))) OtherKind _ (unit .1) in
-      let register = first-false (not (registerFits (ticket .register) (t .sort) (t .register))) OtherRegister _ (kind .1) in
+      let b = booked-told (replyRefusal desk frame (length room)) (ticketOn desk (t .destination)) t job address sort n (sym e ∙ replies .0) in
+      let fit = fit-to-book desk frame (length room) (b .0) in
       let there : r .desk ≡ closedOn desk (t .destination) = replies .1 ∙ rw (b .0) in (
         record {
-          was-read = rw read;
+          was-read = rw (fit .0);
           for-address = b .2;
           theirs = rw (b .2) (b .1);
-          from-module = rw (b .2) (eqb-true _ _ (not-false _ (unit .0)));
-          kind-fits = rw (b .2) (decides-kind (ticket .sort) (t .sort) .so (not-false _ (kind .0)));
-          register-fits = rw (b .2) (decides-register (ticket .register) (t .sort) (t .register) .so (not-false _ (register .0)));
+          from-module = rw (b .2) (fit .2);
+          kind-fits = rw (b .2) (fit .3);
+          register-fits = rw (b .2) (fit .4);
           type-answered = b .3;
           size-answered = b .4;
-          closes = rw (b .2, there) (closes-alone desk (t .destination) (not-false _ (on .0)));
+          closes = rw (b .2, there) (closes-alone desk (t .destination) (fit .1));
         },
         replies .2 ∙ rw (b .0),
       )
@@ -238,13 +257,17 @@ nearby-reply frame offered t e m near = altered-reply frame offered t e m (near 
 
 -- ---- 01: "Cancel closes the ticket that is open on the address for that job now, frees it at once, and answers job and address."
 
+pub fit-to-cancel : (desk : Desk) (job address : ℕ) → cancelRefusal desk job address ≡ none → OpenOn desk address × (ticketOn desk address .job ≡ job)
+unfolding cancelRefusal
+fit-to-cancel desk job address e =
+    let b = first-false (not (ticketOn desk address .live && eqb (ticketOn desk address .job) job)) NotTheirs none e in
+    decides-and (decides-set (ticketOn desk address .live)) (decides-eq (ticketOn desk address .job) job) .so (not-false _ (b .0))
+
 pub cancelled-right : (desk : Desk) (job address : ℕ) (r : AfterClose) (job′ address′ : ℕ) → Cancels desk job address r → r .answer ≡ Closed job′ address′
     → (job′ ≡ job) × (address′ ≡ address) × (ticketOn desk address .job ≡ job) × ClosedAlone desk address (r .desk)
-unfolding cancelRefusal
 cancelled-right desk job address r job′ address′ c e =
-    let a = closed-told _ _ _ job′ address′ (sym e ∙ c .0) in
-    let b = first-false (not (ticketOn desk address .live && eqb (ticketOn desk address .job) job)) NotTheirs none (a .0) in
-    let fit = decides-and (decides-set (ticketOn desk address .live)) (decides-eq (ticketOn desk address .job) job) .so (not-false _ (b .0)) in
+    let a = closed-told (cancelRefusal desk job address) (ticketOn desk address) address job′ address′ (sym e ∙ c .0) in
+    let fit = fit-to-cancel desk job address (a .0) in
     let there : r .desk ≡ closedOn desk address = c .1 ∙ rw (a .0) in
     (a .1 ∙ fit .1, a .2, fit .1, rw there (closes-alone desk address (fit .0)))
 
@@ -257,22 +280,28 @@ pub record Expired (desk : Desk) (clock job address : ℕ) (desk′ : Desk) : Ty
   pub theirs : job ≡ ticketOn desk address .job
   pub closes : ClosedAlone desk address desk′
 
+pub fit-to-expire : (desk : Desk) (clock : ℕ) → expireRefusal desk clock ≡ none
+    → (duePlace desk clock < 95) × IsDue clock (ticketOn desk (161 + duePlace desk clock))
+unfolding expireRefusal
+fit-to-expire desk clock e =
+    let place : ℕ = duePlace desk clock in
+    let near : place < 95 = leb-false _ _ (first-false (leb 95 place) NothingDue none e .0) in
+    (near, rw (on-host desk place) (decides-due clock (ticketAt desk place) .so (due-ended desk clock .there near)))
+
 pub expired-right : (desk : Desk) (clock : ℕ) (r : AfterClose) (job address : ℕ) → Expires desk clock r → r .answer ≡ Closed job address
     → Expired desk clock job address (r .desk)
-unfolding expireRefusal
 expired-right desk clock r job address x e =
     let place : ℕ = duePlace desk clock in
     let a = closed-told (expireRefusal desk clock) (ticketOn desk (161 + place)) (161 + place) job address (sym e ∙ x .0) in
-    let near : place < 95 = leb-false _ _ (first-false (leb 95 place) NothingDue none (a .0) .0) in
-    let due : IsDue clock (ticketOn desk (161 + place)) = rw (on-host desk place) (decides-due clock (ticketAt desk place) .so (due-ended desk clock .there near)) in
+    let fit = fit-to-expire desk clock (a .0) in
     let there : r .desk ≡ closedOn desk (161 + place) = x .1 ∙ rw (a .0) in
     record {
-      due = rw (a .2) due;
+      due = rw (a .2) (fit .1);
       lowest = λ other h under found.
           decides-due clock (ticketAt desk (other - 161)) .not-so (due-ended desk clock .before (other - 161) (omega (arith, a .2))) (rw (le-leb 161 other h) at found);
-      last = omega (arith, a .2);
+      last = omega (arith, a .2, fit .0);
       theirs = rw (a .2) (a .1);
-      closes = rw (a .2, there) (closes-alone desk (161 + place) (due .0));
+      closes = rw (a .2, there) (closes-alone desk (161 + place) (fit .1 .0));
     }
 
 pub cancel-refusal-keeps : (desk : Desk) (job address : ℕ) (r : AfterClose) (f : Fault) → Cancels desk job address r → r .answer ≡ NotClosed f → r .desk ≡ desk

@@ -1,0 +1,130 @@
+-- The turn is fair: an address comes back only after every other one was given or passed over.
+-- Assumes nothing.
+use mathlib.Core.Path.{_≡_, refl, _∙_, subst}
+use mathlib.Core.Bool.{Bool, true, false}
+use mathlib.Core.List.{List, [], _∷_, _++_}
+use mathlib.Core.Logic.{_≢_, _⊎_, inl, inr, ⊎-elim}
+use mathlib.Core.Option.{Option, some, none}
+use Prim.Native.Nat.{ℕ, _+_, _-_, _%_, _≤_, _<_}
+use native.Mathlib.Omega.{arith}
+use native.Mathlib.Decide.{decLe}
+use borrow.Author.Tests.{eqb-true, eqb-false, not-false}
+use lib.Dec.{eqb}
+use lib.ListN.{length}
+use Rattle.desk.proofs.Ranking.{search-ended}
+use Rattle.desk.specs.Close.{cancelRefusal, duePlace, expireRefusal, closeDesk}
+use Rattle.desk.specs.Open.{placeFrom, distanceOf, givenPlace, openRefusal, newTicket, openDesk}
+use Rattle.desk.specs.Reply.{replyRefusal, bookDesk}
+use Rattle.frame.specs.Frame.{messageOf}
+use Rattle.telegram.specs.Read.{fieldsOf}
+use Rattle.desk.specs.declared.Ticket.{Ticket}
+use Rattle.desk.specs.declared.Desk.{Desk}
+use Rattle.telegram.specs.declared.Fields.{Fields}
+use Rattle.desk.specs.declared.Fault.{Fault}
+use Rattle.desk.proofs.Laws.{fit-to-open}
+use Rattle.nights.specs.Night.{Call, after, afterAll}
+use Rattle.nights.specs.Round.{Gives, PassesOver, Met}
+use Rattle.nights.specs.Night.{asks, brings, cancels, expires}
+
+-- a place within an opening's sweep is given or passed over
+swept : (desk : Desk) (call : Call) (k : ℕ) → Gives desk call (givenPlace desk) → k ≤ distanceOf desk → distanceOf desk < 95
+    → Gives desk call (placeFrom (desk .turn) k) ⊎ PassesOver desk call (placeFrom (desk .turn) k)
+unfolding PassesOver givenPlace
+swept desk call k g h near = go (eqb k (distanceOf desk)) refl
+  where
+    go : (t : Bool) → eqb k (distanceOf desk) ≡ t
+        → Gives desk call (placeFrom (desk .turn) k) ⊎ PassesOver desk call (placeFrom (desk .turn) k)
+    go true e = inl (rw (eqb-true k (distanceOf desk) e) g)
+    go false e =
+        let under : k < distanceOf desk = omega (arith, eqb-false k (distanceOf desk) e) in
+        inr (g, (k, under, refl), not-false _ (search-ended desk .before k under))
+
+-- an opening that is not refused: where it gives, and the turn after it
+record Sweep (desk : Desk) (call : Call) : Type 0 where
+  gives : Gives desk call (givenPlace desk)
+  near : distanceOf desk < 95
+  turn-after : after desk call .turn ≡ (givenPlace desk + 1) % 95
+
+closing-stays : (o : Option Fault) (desk : Desk) (address : ℕ) → closeDesk o desk address .turn ≡ desk .turn
+closing-stays none desk address = refl
+closing-stays (some f) desk address = refl
+
+booking-stays : (o : Option Fault) (desk : Desk) (t : Fields) → bookDesk o desk t .turn ≡ desk .turn
+booking-stays none desk t = refl
+booking-stays (some f) desk t = refl
+
+-- a call either opens, or leaves the turn
+opens-or-stays : (desk : Desk) (call : Call) → Sweep desk call ⊎ (after desk call .turn ≡ desk .turn)
+unfolding Gives after
+opens-or-stays desk (asks job unit sort register bytes wait clock room) = go (openRefusal desk ticket bytes (length room)) refl
+  where
+    ticket : Ticket
+    ticket = newTicket job unit sort register wait clock
+
+    go : (o : Option Fault) → openRefusal desk ticket bytes (length room) ≡ o
+        → Sweep desk (asks job unit sort register bytes wait clock room)
+        ⊎ (openDesk (openRefusal desk ticket bytes (length room)) desk (givenPlace desk) ticket .turn ≡ desk .turn)
+    go none e = inl (record { gives = (e, refl); near = fit-to-open desk ticket bytes (length room) e .1; turn-after = rw e })
+    go (some f) e = inr (rw e)
+opens-or-stays desk (brings frame room) = inr (booking-stays (replyRefusal desk frame (length room)) desk (fieldsOf (messageOf frame)))
+opens-or-stays desk (cancels job address) = inr (closing-stays (cancelRefusal desk job address) desk address)
+opens-or-stays desk (expires clock) = inr (closing-stays (expireRefusal desk clock) desk (161 + duePlace desk clock))
+
+gives-opening : (desk : Desk) (call : Call) (place : ℕ) → Gives desk call place → Sweep desk call × (place ≡ givenPlace desk)
+unfolding Gives after
+gives-opening desk (asks job unit sort register bytes wait clock room) place g =
+    let ticket : Ticket = newTicket job unit sort register wait clock in
+    (record { gives = (g .0, refl); near = fit-to-open desk ticket bytes (length room) (g .0) .1; turn-after = rw (g .0) }, g .1)
+gives-opening desk (brings frame room) place g = absurd g
+gives-opening desk (cancels job address) place g = absurd g
+gives-opening desk (expires clock) place g = absurd g
+
+-- ---- the sweep of the turn from the place after p on, of which s places are done
+
+along : (p s j turn : ℕ) → s ≤ j → turn ≡ (p + 1 + s) % 95 → (turn + (j - s)) % 95 ≡ (p + 1 + j) % 95
+along p s j turn h e = omega arith
+
+reaches : (p s j d turn : ℕ) → p < 95 → d < 95 → s ≤ j → j < 94 → turn ≡ (p + 1 + s) % 95 → p ≡ (turn + d) % 95 → j - s ≤ d
+reaches p s j d turn hp hd lo hi e f = omega arith
+
+moved : (p s d turn : ℕ) → turn ≡ (p + 1 + s) % 95 → ((turn + d) % 95 + 1) % 95 ≡ (p + 1 + (s + d + 1)) % 95
+moved p s d turn e = omega arith
+
+meets : (p s j : ℕ) (desk : Desk) (call : Call) → Sweep desk call → s ≤ j → desk .turn ≡ (p + 1 + s) % 95 → j - s ≤ distanceOf desk
+    → Gives desk call ((p + 1 + j) % 95) ⊎ PassesOver desk call ((p + 1 + j) % 95)
+meets p s j desk call o lo turn h =
+    subst (λ (place : ℕ). Gives desk call place ⊎ PassesOver desk call place) (along p s j (desk .turn) lo turn)
+    (swept desk call (j - s) (o .gives) h (o .near))
+
+sweep : (p : ℕ) → p < 95 → (calls : List Call) (last : Call) (desk : Desk) (s j : ℕ) → desk .turn ≡ (p + 1 + s) % 95 → s ≤ j → j < 94
+    → Gives (afterAll desk calls) last p → Met desk (calls ++ (last ∷ [])) ((p + 1 + j) % 95)
+unfolding Met afterAll givenPlace
+sweep p hp [] last desk s j turn lo hi g =
+    let o = gives-opening desk last p g in
+    inl (meets p s j desk last (o .0) lo turn (reaches p s j (distanceOf desk) (desk .turn) hp (o .0 .near) lo hi turn (o .1)))
+sweep p hp (call ∷ calls) last desk s j turn lo hi g =
+    ⊎-elim (λ o. by o (decLe (j - s) (distanceOf desk))
+    (λ h. sweep p hp calls last (after desk call) (s + distanceOf desk + 1) j (o .turn-after ∙ moved p s (distanceOf desk) (desk .turn) turn) h hi g))
+    (λ stays. inr (sweep p hp calls last (after desk call) s j (stays ∙ turn) lo hi g)) (opens-or-stays desk call)
+  where
+    by : Sweep desk call → Dec (j - s ≤ distanceOf desk)
+        → (s + distanceOf desk + 1 ≤ j → Met (after desk call) (calls ++ (last ∷ [])) ((p + 1 + j) % 95))
+        → (Gives desk call ((p + 1 + j) % 95) ⊎ PassesOver desk call ((p + 1 + j) % 95)) ⊎ Met (after desk call) (calls ++ (last ∷ [])) ((p + 1 + j) % 95)
+    by o (yes h) later = inl (meets p s j desk call o lo turn h)
+    by o (no h) later = inr (later (omega arith))
+
+round : (p q : ℕ) → p < 95 → q < 95 → q ≢ p → ((q + 94 - p) % 95 < 94) × ((p + 1 + (q + 94 - p) % 95) % 95 ≡ q)
+round p q hp hq n = (omega arith, omega arith)
+
+-- "If an address is given at two openings and not between them, then for every other address some opening after the first, up to and
+-- including the second, gave it or passed it over because it held a ticket." It holds of any two openings that give the address, on any desk.
+pub turn-fair : (desk : Desk) (first : Call) (p : ℕ) → Gives desk first p → (calls : List Call) (second : Call)
+    → Gives (afterAll (after desk first) calls) second p → (q : ℕ) → q < 95 → q ≢ p → Met (after desk first) (calls ++ (second ∷ [])) q
+unfolding givenPlace
+turn-fair desk first p g calls second again q hq other =
+    let o = gives-opening desk first p g in
+    let hp : p < 95 = omega (arith, o .1) in
+    let r = round p q hp hq other in
+    let turn : after desk first .turn ≡ (p + 1 + 0) % 95 = o .0 .turn-after ∙ rw (← o .1) (omega arith) in
+    subst (λ (place : ℕ). Met (after desk first) (calls ++ (second ∷ [])) place) (r .1)
+    (sweep p hp calls second (after desk first) 0 ((q + 94 - p) % 95) turn (omega arith) (r .0) again)
