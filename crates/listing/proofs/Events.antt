@@ -13,12 +13,13 @@ use lib.ListN.{length, getD, take, drop, length-drop, drop-of-length-le}
 use lib.Seq.{getD-drop}
 use Rattle.lent.proofs.Laws.{drop-next}
 use Rattle.telegram.specs.Read.{readFrame}
-use Rattle.listing.specs.declared.Event.{Event}
-use Rattle.listing.specs.declared.Event.the-variants.{Read, Refused, Dropped, Open}
+use Rattle.lines.specs.declared.Event.{Event}
+use Rattle.lines.specs.declared.Event.the-variants.{Read, Refused, Dropped, Open}
+use Rattle.lines.specs.Lines.{lineText}
 use Rattle.listing.specs.declared.Scan.{Scan}
 use Rattle.listing.specs.Events.{Placed, readEvent, toNextEnd, eventOf, eventsFrom, total, isOk, isRefused, isDropped, isOpen}
-use Rattle.listing.specs.Lines.{linesText, lineText}
 use Rattle.listing.specs.Step.{here, frameHere, readHere, counted, afterEvent, passing, stepScan, stepText, scanAfter, textAfter}
+use Rattle.listing.specs.Listing.{linesText}
 
 -- ---- lists of events joined
 

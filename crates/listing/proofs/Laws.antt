@@ -10,19 +10,19 @@ use native.Mathlib.Numerals.{add-one}
 use native.Mathlib.Omega.{arith}
 use borrow.Author.Tests.{le-ltb, lt-ltb, eq-eqb, ne-eqb, eqb-true, leb-true}
 use lib.Dec.{eqb, leb}
-use lib.ListN.{length, getD, drop, length-append, take}
-use Rattle.telegram.specs.Read.{readFrame, faultNumber}
+use lib.ListN.{length, getD, drop, take}
+use Rattle.telegram.specs.Read.{readFrame}
 use Rattle.telegram.specs.declared.Reading.{Reading}
-use Rattle.text.proofs.Laws.{decimal-short}
-use Rattle.lent.proofs.Laws.{length-over}
-use Rattle.listing.specs.declared.Event.{Event}
-use Rattle.listing.specs.declared.Event.the-variants.{Read, Refused, Dropped, Open}
+use Rattle.lines.specs.declared.Event.{Event}
+use Rattle.lines.specs.declared.Event.the-variants.{Dropped, Open}
+use Rattle.lines.proofs.Laws.{line-short}
+use Rattle.lines.specs.Lines.{headerText, longerText, lineText, endingText}
 use Rattle.listing.specs.declared.Scan.{Scan}
 use Rattle.listing.specs.declared.Stepped.{Stepped}
 use Rattle.listing.specs.Events.{Placed, readEvent, toNextEnd, eventOf, eventsFrom, eventsOf, total, isOk, isRefused, isDropped, isOpen}
-use Rattle.listing.specs.Lines.{headerText, longerText, eventText, lineText, totalsText, linesText, listingText, Writes}
 use Rattle.listing.specs.Step.{startScan, here, stepText, scanAfter, textAfter, endText, Starts, Steps, readHere}
 use Rattle.listing.proofs.Events.{events-none, placed, Good, Whole, whole, endPlaced, one-kind, lines-append, total-append}
+use Rattle.listing.specs.Listing.{linesText, listingText}
 use Rattle.telegram.specs.declared.Reading.the-variants as reading
 
 -- ---- 01: "it writes exactly this": the header, the steps' texts from the start over all places, and the end's text
@@ -97,7 +97,7 @@ module _ (capture : List ℕ) (fits : length capture < 2 ^ 64) where
 
 pub listed : (capture : List ℕ) → length capture ≤ 65536
     → headerText ++ (textAfter (length capture) startScan capture ++ endText (lastScan capture)) ≡ listingText capture
-unfolding listingText endText
+unfolding listingText endingText
 listed capture h =
     rw (le-ltb 65536 (length capture) h)
     (ap (λ (l : List ℕ). headerText ++ l)
@@ -262,19 +262,7 @@ pub open-once : (capture : List ℕ) → total isOpen (eventsOf capture) ≤ 1
 unfolding eventsOf
 open-once capture = open-from capture 0
 
--- ---- how much room a line takes, for whoever lends it
-
-event-short : (e : Event) → length (eventText e) ≤ 125
-event-short (Read t) =
-    simp length-append
-    (omega (arith, decimal-short (t .destination), decimal-short (t .source), decimal-short (t .sort), decimal-short (t .register), decimal-short (t .size)))
-event-short (Refused f) = omega (arith, decimal-short (faultNumber f))
-event-short Dropped = omega arith
-event-short Open = omega arith
-
-pub line-short : (place : ℕ) (e : Event) → length (lineText place e) ≤ 150
-unfolding lineText
-line-short place e = simp length-append (omega (arith, decimal-short place, event-short e))
+-- ---- how much room a step's line takes, for whoever lends it
 
 pub step-short : (scan : Scan) (capture : List ℕ) → length (stepText scan capture) ≤ 150
 unfolding stepText
@@ -288,37 +276,7 @@ step-short scan capture = go (leb (length capture) (scan .place)) (eqb (here sca
     go false false u true = line-short (scan .start) (readHere scan capture)
     go false false u false = omega arith
 
-totals-short : (ok refused dropped : ℕ) → length (totalsText ok refused dropped) ≤ 100
-unfolding totalsText
-totals-short ok refused dropped = simp length-append (omega (arith, decimal-short ok, decimal-short refused, decimal-short dropped))
-
-pub end-short : (scan : Scan) → length (endText scan) ≤ 250
-unfolding endText
-end-short scan =
-    rw (length-append (cond (scan .inside) (lineText (scan .start) Open) []) (totalsText (scan .ok) (scan .refused) (scan .dropped)))
-    (go (scan .inside) (totals-short (scan .ok) (scan .refused) (scan .dropped)))
-  where
-    go : (t : Bool) → length (totalsText (scan .ok) (scan .refused) (scan .dropped)) ≤ 100
-        → length (cond t (lineText (scan .start) Open) []) + length (totalsText (scan .ok) (scan .refused) (scan .dropped)) ≤ 250
-    go true h = let l : length (lineText (scan .start) Open) ≤ 150 = line-short (scan .start) Open in omega arith
-    go false h = omega arith
-
-pub header-short : length headerText ≤ 50
-unfolding headerText
-header-short = omega arith
-
-pub longer-short : length (headerText ++ longerText) ≤ 50
-unfolding headerText longerText
-longer-short = omega arith
-
--- a text that fits the room stands in it whole
-pub writes-within : (text room : List ℕ) (r most : ℕ) (room′ : List ℕ) → Writes text room r room′ → length text ≤ most → most ≤ length room → r ≤ length room′
-writes-within text room r most room′ w short fits = rw (w .1, length-over text room) (omega (arith, w .0))
-
--- ---- 01: "Show that any two outcomes allowed by it are equal."
-
-pub writes-once : (text room : List ℕ) {a b : ℕ} {x y : List ℕ} → Writes text room a x → Writes text room b y → (a ≡ b) × (x ≡ y)
-writes-once text room p q = (p .0 ∙ sym (q .0), p .1 ∙ sym (q .1))
+-- ---- 01: "Show that any two outcomes allowed by it are equal." Those of the calls that write text alone are in the laws of `lines`.
 
 pub starts-once : {a b : Scan} → Starts a → Starts b → a ≡ b
 starts-once p q = p ∙ sym q

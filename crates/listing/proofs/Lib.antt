@@ -1,4 +1,3 @@
-pub mod Pieces
 pub mod Looking
 pub mod Events
 pub mod Laws

@@ -1,15 +1,15 @@
 -- What a step answers, by the byte that it looks at.
 -- Assumes nothing.
-use mathlib.Core.Path.{_≡_, refl, ap, _∙_}
+use mathlib.Core.Path.{_≡_, refl}
 use mathlib.Core.Bool.{true, false, _&&_}
-use mathlib.Core.List.{List, []}
+use mathlib.Core.List.{List}
 use Prim.Native.Nat.{ℕ, _+_, _-_, _≤_, _<_}
 use native.Mathlib.Omega.{arith}
 use borrow.Author.Tests.{le-leb, lt-leb, eq-eqb, ne-eqb}
 use lib.Dec.{eqb}
 use lib.ListN.{length, take, drop}
 use Rattle.lent.specs.Lent.{over}
-use Rattle.listing.specs.declared.Event.{Event}
+use Rattle.lines.specs.declared.Event.{Event}
 use Rattle.listing.specs.declared.Scan.{Scan}
 use Rattle.listing.specs.declared.Stepped.{Stepped}
 use Rattle.listing.specs.Step.{here, stepScan, stepText, readHere, passing, Steps, Tells, Opens}

@@ -1,16 +1,16 @@
 -- What a captured line holds: "Bytes outside a frame are passed over. A 13 opens a frame, a second 13 drops it and opens another, a 10 closes
 -- it and it is read." So each 13 has one event, and the next 10 or 13 after it decides which.
 -- Assumes nothing.
-use mathlib.Core.Bool.{Bool, cond, _||_}
+use mathlib.Core.Bool.{cond, _||_}
 use mathlib.Core.List.{List, [], _∷_, _++_}
 use Prim.Native.Nat.{ℕ, suc, _+_}
 use lib.Dec.{eqb, leb}
 use lib.ListN.{length, getD, take}
 use Rattle.telegram.specs.Read.{readFrame}
 use Rattle.telegram.specs.declared.Reading.{Reading}
+use Rattle.lines.specs.declared.Event.{Event}
+use Rattle.lines.specs.declared.Event.the-variants.{Read, Refused, Dropped, Open}
 use Rattle.telegram.specs.declared.Reading.the-variants as reading
-use Rattle.listing.specs.declared.Event.{Event}
-use Rattle.listing.specs.declared.Event.the-variants.{Read, Refused, Dropped, Open}
 
 -- "The reader has 240 bytes of room here."
 abbrev pub readEvent : Reading → Event

@@ -1,3 +1,3 @@
 pub mod Events
-pub mod Lines
+pub mod Listing
 pub mod Step

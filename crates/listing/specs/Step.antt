@@ -4,16 +4,16 @@ use mathlib.Core.Path.{_≡_}
 use mathlib.Core.Bool.{Bool, true, false, cond, _&&_}
 use mathlib.Core.List.{List, [], _++_}
 use Prim.Native.Nat.{ℕ, zero, suc, _+_, _-_, _%_, _^_}
-use lib.Dec.{eqb, leb, ltb}
+use lib.Dec.{eqb, leb}
 use lib.ListN.{length, getD, take, drop}
 use Rattle.lent.specs.Lent.{over}
 use Rattle.telegram.specs.Read.{readFrame}
-use Rattle.listing.specs.declared.Event.{Event}
-use Rattle.listing.specs.declared.Event.the-variants.{Read, Refused, Dropped, Open}
+use Rattle.lines.specs.declared.Event.{Event}
+use Rattle.lines.specs.declared.Event.the-variants.{Dropped}
+use Rattle.lines.specs.Lines.{lineText, endingText}
 use Rattle.listing.specs.declared.Scan.{Scan}
 use Rattle.listing.specs.declared.Stepped.{Stepped}
 use Rattle.listing.specs.Events.{readEvent, isOk, isRefused, isDropped}
-use Rattle.listing.specs.Lines.{lineText, totalsText}
 
 -- at the capture's start: no frame open, nothing counted
 abbrev pub startScan : Scan
@@ -69,9 +69,9 @@ stepText scan capture =
     (cond (scan .inside) (lineText (scan .start) Dropped) [])
     (cond (scan .inside && eqb (here scan capture) 10) (lineText (scan .start) (readHere scan capture)) []))
 
--- "Without an open frame there is no open line."
-unfoldable pub endText : Scan → List ℕ
-endText scan = cond (scan .inside) (lineText (scan .start) Open) [] ++ totalsText (scan .ok) (scan .refused) (scan .dropped)
+-- what is left to say at the capture's end
+abbrev pub endText : Scan → List ℕ
+endText scan = endingText (scan .inside) (scan .start) (scan .ok) (scan .refused) (scan .dropped)
 
 -- so many steps one after the other: the scan behind them, and their texts joined
 unfoldable pub scanAfter : ℕ → Scan → List ℕ → Scan

@@ -1,25 +1,13 @@
 // The night listing: the frames of a captured line, one line of text for each, and the totals.
 // specs/ says what each line is. The program `night` only adds reading and writing.
-mod lines;
 mod steps;
 
+pub use lines::Event;
 pub use lines::header;
 pub use lines::too_long;
 pub use steps::finish;
 pub use steps::start;
 pub use steps::step;
-
-// What became of a frame.
-pub enum Event {
-    // read, with what it says
-    Read(telegram::Fields),
-    // closed by a 10, but no telegram
-    Refused(telegram::Fault),
-    // a second 13 came before a 10
-    Dropped,
-    // the capture ended before a 10
-    Open,
-}
 
 // How far a capture was gone through. Places count from 0.
 pub struct Scan {

@@ -1,14 +1,13 @@
 // The scan of a capture, byte by byte, each step by value.
-use crate::Event;
 use crate::Scan;
 use crate::Stepped;
-use crate::lines::line;
-use crate::lines::totals;
 use frame::END;
 use frame::START;
+use lines::Event;
+use lines::line;
 use std::num::wrapping_add_u64;
 ghost use Rattle.listing.specs.Events.{readEvent, isOk, isRefused, isDropped};
-ghost use Rattle.listing.specs.Lines.{Writes};
+ghost use Rattle.lines.specs.Lines.{Writes};
 ghost use Rattle.listing.specs.Step.{Starts, Steps, Tells, Opens, endText, afterEvent, passing, readHere};
 ghost use mathlib.Core.Path.{_≡_};
 ghost use mathlib.Core.Bool.{_&&_};
@@ -57,11 +56,14 @@ pub fn step(scan: Scan, capture: &[u8], room: &mut [u8]) -> Stepped
 pub fn finish(scan: Scan, room: &mut [u8]) -> usize
     ensures { λ r. ⌜ Writes (endText scan) (now (room .entry)) r (now (room .exit)) ⌝ }
 {
-    if scan.inside {
-        let at = line(scan.start, Event::Open, room);
-        return totals(scan.ok, scan.refused, scan.dropped, room, at);
-    }
-    totals(scan.ok, scan.refused, scan.dropped, room, 0)
+    lines::ending(
+        scan.inside,
+        scan.start,
+        scan.ok,
+        scan.refused,
+        scan.dropped,
+        room,
+    )
 }
 
 fn closes(inside: bool, byte: u8) -> bool

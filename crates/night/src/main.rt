@@ -46,11 +46,17 @@ fn gather(capture: &mut [u8]) -> Input
             return piece;
         }
         if piece.size == 0 {
-            return Input { size, failed: false };
+            return Input {
+                size,
+                failed: false,
+            };
         }
         size += piece.size;
     }
-    Input { size, failed: false }
+    Input {
+        size,
+        failed: false,
+    }
 }
 
 // One read, laid behind what is there already. Nothing at the input's end.

@@ -1,5 +1,6 @@
 use native.Mathlib.Omega.{arith}
-use Rattle.listing.proofs.Laws.{writes-within, step-short}
+use Rattle.lines.proofs.Laws.{writes-within}
+use Rattle.listing.proofs.Laws.{step-short}
 use Rattle.listing.specs.Step.{stepText}
 use borrow.Author.Needs.{needs}
 use Rattle.night.proofs.advance.Statement.{statement}

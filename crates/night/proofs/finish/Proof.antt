@@ -1,5 +1,5 @@
 use native.Mathlib.Omega.{arith}
-use Rattle.listing.proofs.Laws.{writes-within, end-short}
+use Rattle.lines.proofs.Laws.{writes-within, ending-short}
 use Rattle.listing.specs.Step.{endText}
 use borrow.Author.Needs.{needs}
 use Rattle.night.proofs.finish.Statement.{statement}
@@ -18,7 +18,7 @@ part-write-all-start : tie.Need-part-write-all-start
 part-write-all-start c = search needs
 
 part-write-all-end : tie.Need-part-write-all-end
-part-write-all-end c = let h = writes-within (endText (c .before .before .before .before .args .scan)) _ _ 250 _ (c .before .before .finish .ensures) (end-short (c .before .before .before .before .args .scan)) (omega arith) in search needs
+part-write-all-end c = let h = writes-within (endText (c .before .before .before .before .args .scan)) _ _ 250 _ (c .before .before .finish .ensures) (ending-short (c .before .before .before .before .args .scan .inside) (c .before .before .before .before .args .scan .start) (c .before .before .before .before .args .scan .ok) (c .before .before .before .before .args .scan .refused) (c .before .before .before .before .args .scan .dropped)) (omega arith) in search needs
 
 write-all-requires : tie.Need-write-all-requires
 write-all-requires c κs = search needs

@@ -1,6 +1,6 @@
 use native.Mathlib.Omega.{arith}
-use Rattle.listing.proofs.Laws.{writes-within, header-short}
-use Rattle.listing.specs.Lines.{headerText}
+use Rattle.lines.proofs.Laws.{writes-within, header-short}
+use Rattle.lines.specs.Lines.{headerText}
 use borrow.Author.Needs.{needs}
 use Rattle.night.proofs.header.Statement.{statement}
 use Rattle.night.proofs.header.Tie as tie

@@ -1,7 +1,7 @@
 use native.Mathlib.Omega.{arith}
-use Rattle.listing.proofs.Laws.{writes-within, longer-short}
+use Rattle.lines.proofs.Laws.{writes-within, longer-short}
 use mathlib.Core.List.{_++_}
-use Rattle.listing.specs.Lines.{headerText, longerText}
+use Rattle.lines.specs.Lines.{headerText, longerText}
 use borrow.Author.Needs.{needs}
 use Rattle.night.proofs.longer.Statement.{statement}
 use Rattle.night.proofs.longer.Tie as tie

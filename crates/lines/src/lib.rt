@@ -1,10 +1,21 @@
 // The listing's text, put together from fixed words and decimal numbers. Each piece answers the
 // place behind it, where the next one goes.
-use crate::Event;
-ghost use Rattle.listing.specs.Lines.{Puts, Writes, headerText, longerText, field as fieldText, labelled as labelledText, eventText, lineText, totalsText};
+ghost use Rattle.lines.specs.Lines.{Puts, Writes, headerText, longerText, field as fieldText, labelled as labelledText, eventText, lineText, totalsText, endingText};
 ghost use mathlib.Core.List.{_++_};
 ghost use Prim.Native.Nat.{_+_, _≤_};
 ghost use lib.ListN.{length};
+
+// What became of a frame.
+pub enum Event {
+    // read, with what it says
+    Read(telegram::Fields),
+    // closed by a 10, but no telegram
+    Refused(telegram::Fault),
+    // a second 13 came before a 10
+    Dropped,
+    // the capture ended before a 10
+    Open,
+}
 
 // The first line. This call and the others that write text lay it over the room's first bytes, as
 // much of it as there is room for, and answer how long it is. The rest of the room stays.
@@ -23,16 +34,33 @@ pub fn too_long(room: &mut [u8]) -> usize
 }
 
 // The line of a frame.
-pub(crate) fn line(place: u64, event: Event, room: &mut [u8]) -> usize
-    ensures { λ r. ⌜ Writes (lineText place event) (now (room .entry)) r (now (room .exit)) × (r ≤ 150) ⌝ }
+pub fn line(place: u64, event: Event, room: &mut [u8]) -> usize
+    ensures { λ r. ⌜ Writes (lineText place event) (now (room .entry)) r (now (room .exit)) ⌝ }
 {
     let a = labelled(b"at", place, room, 0);
     let b = event_at(event, room, a);
     word(b"\n", room, b)
 }
 
-// The last line.
-pub(crate) fn totals(ok: u64, refused: u64, dropped: u64, room: &mut [u8], at: usize) -> usize
+// The end of a listing: the line of the frame that is open there, if one is, and the totals.
+pub fn ending(
+    inside: bool,
+    start: u64,
+    ok: u64,
+    refused: u64,
+    dropped: u64,
+    room: &mut [u8],
+) -> usize
+    ensures { λ r. ⌜ Writes (endingText inside start ok refused dropped) (now (room .entry)) r (now (room .exit)) ⌝ }
+{
+    if inside {
+        let at = line(start, Event::Open, room);
+        return totals(ok, refused, dropped, room, at);
+    }
+    totals(ok, refused, dropped, room, 0)
+}
+
+fn totals(ok: u64, refused: u64, dropped: u64, room: &mut [u8], at: usize) -> usize
     requires { ⌜ at ≤ 150 ⌝ }
     ensures { λ r. ⌜ Puts (totalsText ok refused dropped) at (now (room .entry)) r (now (room .exit)) ⌝ }
 {

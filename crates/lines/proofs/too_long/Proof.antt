@@ -1,9 +1,9 @@
-use Rattle.listing.proofs.Pieces.{puts-then, puts-writes}
+use Rattle.lines.proofs.Pieces.{puts-then, puts-writes}
 use mathlib.Core.List.{_++_}
-use Rattle.listing.specs.Lines.{headerText, longerText}
+use Rattle.lines.specs.Lines.{headerText, longerText}
 use borrow.Author.Needs.{needs}
-use Rattle.listing.proofs.lines.too_long.Statement.{statement}
-use Rattle.listing.proofs.lines.too_long.Tie as tie
+use Rattle.lines.proofs.too_long.Statement.{statement}
+use Rattle.lines.proofs.too_long.Tie as tie
 
 slice-aggregate-word : tie.Need-slice-aggregate-word
 slice-aggregate-word c = search needs

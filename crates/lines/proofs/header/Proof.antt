@@ -1,8 +1,8 @@
-use Rattle.listing.proofs.Pieces.{puts-writes}
-use Rattle.listing.specs.Lines.{headerText}
+use Rattle.lines.proofs.Pieces.{puts-writes}
+use Rattle.lines.specs.Lines.{headerText}
 use borrow.Author.Needs.{needs}
-use Rattle.listing.proofs.lines.header.Statement.{statement}
-use Rattle.listing.proofs.lines.header.Tie as tie
+use Rattle.lines.proofs.header.Statement.{statement}
+use Rattle.lines.proofs.header.Tie as tie
 
 slice-aggregate-word : tie.Need-slice-aggregate-word
 slice-aggregate-word c = search needs

@@ -1,9 +1,9 @@
-use Rattle.listing.proofs.Pieces.{puts-then}
+use Rattle.lines.proofs.Pieces.{puts-then}
 use native.Mathlib.Omega.{arith}
-use Rattle.listing.specs.Lines.{field}
+use Rattle.lines.specs.Lines.{field}
 use borrow.Author.Needs.{needs}
-use Rattle.listing.proofs.lines.labelled.Statement.{statement}
-use Rattle.listing.proofs.lines.labelled.Tie as tie
+use Rattle.lines.proofs.labelled.Statement.{statement}
+use Rattle.lines.proofs.labelled.Tie as tie
 
 word-requires : tie.Need-word-requires
 word-requires c κs = search needs

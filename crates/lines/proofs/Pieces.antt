@@ -2,7 +2,7 @@
 -- Assumes nothing.
 use mathlib.Core.Path.{_≡_, sym, ap, ap₂, _∙_}
 use mathlib.Core.List.{List, [], _∷_, _++_}
-use mathlib.Core.Bool.{true, false}
+use mathlib.Core.Bool.{true, false, Bool}
 use Prim.Native.Nat.{ℕ, _+_, _≤_}
 use native.Mathlib.Omega.{arith}
 use native.Mathlib.Nat.{zero-add}
@@ -13,11 +13,9 @@ use Rattle.text.specs.Text.{decimal, Spells, ascii}
 use Rattle.text.proofs.Laws.{decimal-short}
 use Rattle.telegram.specs.Read.{faultNumber}
 use Rattle.telegram.specs.declared.Fault.{Fault}
-use Rattle.listing.specs.declared.Event.{Event}
-use Rattle.listing.specs.Lines.{Puts, Writes, field, eventText, labelled, lineText, totalsText}
-use Rattle.listing.specs.Step.{endText}
-use Rattle.listing.specs.declared.Event.the-variants.{Refused, Open}
-use Rattle.listing.specs.declared.Scan.{Scan}
+use Rattle.lines.specs.declared.Event.{Event}
+use Rattle.lines.specs.Lines.{Puts, Writes, field, eventText, labelled, lineText, totalsText, endingText}
+use Rattle.lines.specs.declared.Event.the-variants.{Refused, Open}
 
 -- a piece, and the next one at the place behind it
 pub puts-then : (x y : List ℕ) (at a b : ℕ) (room room₁ room₂ : List ℕ) → Puts x at room a room₁ → Puts y a room₁ b room₂ → Puts (x ++ y) at room b room₂
@@ -63,16 +61,16 @@ refused-put fault n at r room room′ e p = rw (← e) p
 
 -- ---- the end
 
-pub end-open : (scan : Scan) (at r : ℕ) (room room₁ room₂ : List ℕ) → scan .inside ≡ true → Writes (lineText (scan .start) Open) room at room₁
-    → Puts (totalsText (scan .ok) (scan .refused) (scan .dropped)) at room₁ r room₂ → Writes (endText scan) room r room₂
-unfolding endText
-end-open scan at r room room₁ room₂ e p q =
-    rw e
-    (puts-writes (lineText (scan .start) Open ++ totalsText (scan .ok) (scan .refused) (scan .dropped)) r room room₂
-    (puts-then (lineText (scan .start) Open) (totalsText (scan .ok) (scan .refused) (scan .dropped)) 0 at r room room₁ room₂
-    (writes-puts (lineText (scan .start) Open) at room room₁ p) q))
+module _ (start ok refused dropped : ℕ) where
+  pub ending-open : (inside : Bool) (at r : ℕ) (room room₁ room₂ : List ℕ) → inside ≡ true → Writes (lineText start Open) room at room₁
+      → Puts (totalsText ok refused dropped) at room₁ r room₂ → Writes (endingText inside start ok refused dropped) room r room₂
+  unfolding endingText
+  ending-open inside at r room room₁ room₂ e p q =
+      rw e
+      (puts-writes (lineText start Open ++ totalsText ok refused dropped) r room room₂
+      (puts-then (lineText start Open) (totalsText ok refused dropped) 0 at r room room₁ room₂ (writes-puts (lineText start Open) at room room₁ p) q))
 
-pub end-closed : (scan : Scan) (r : ℕ) (room room′ : List ℕ) → scan .inside ≡ false
-    → Puts (totalsText (scan .ok) (scan .refused) (scan .dropped)) 0 room r room′ → Writes (endText scan) room r room′
-unfolding endText
-end-closed scan r room room′ e p = rw e (puts-writes (totalsText (scan .ok) (scan .refused) (scan .dropped)) r room room′ p)
+  pub ending-closed : (inside : Bool) (r : ℕ) (room room′ : List ℕ) → inside ≡ false
+      → Puts (totalsText ok refused dropped) 0 room r room′ → Writes (endingText inside start ok refused dropped) room r room′
+  unfolding endingText
+  ending-closed inside r room room′ e p = rw e (puts-writes (totalsText ok refused dropped) r room room′ p)

@@ -1,11 +1,11 @@
-use Rattle.listing.proofs.Pieces.{puts-then}
+use Rattle.lines.proofs.Pieces.{puts-then}
 use native.Mathlib.Omega.{arith}
 use mathlib.Core.List.{_++_}
 use Rattle.text.specs.Text.{ascii}
-use Rattle.listing.specs.Lines.{labelled, field}
+use Rattle.lines.specs.Lines.{labelled, field}
 use borrow.Author.Needs.{needs}
-use Rattle.listing.proofs.lines.fields.Statement.{statement}
-use Rattle.listing.proofs.lines.fields.Tie as tie
+use Rattle.lines.proofs.fields.Statement.{statement}
+use Rattle.lines.proofs.fields.Tie as tie
 
 slice-aggregate-labelled : tie.Need-slice-aggregate-labelled
 slice-aggregate-labelled c = search needs

@@ -1,8 +1,8 @@
-use Rattle.listing.proofs.Pieces.{field-fits, field-put}
+use Rattle.lines.proofs.Pieces.{field-fits, field-put}
 use native.Mathlib.Omega.{arith}
 use borrow.Author.Needs.{needs}
-use Rattle.listing.proofs.lines.field.Statement.{statement}
-use Rattle.listing.proofs.lines.field.Tie as tie
+use Rattle.lines.proofs.field.Statement.{statement}
+use Rattle.lines.proofs.field.Tie as tie
 
 slice-aggregate-word : tie.Need-slice-aggregate-word
 slice-aggregate-word c = search needs

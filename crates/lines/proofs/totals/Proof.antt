@@ -1,10 +1,10 @@
-use Rattle.listing.proofs.Pieces.{puts-then}
+use Rattle.lines.proofs.Pieces.{puts-then}
 use mathlib.Core.List.{_++_}
 use Rattle.text.specs.Text.{ascii, newline}
-use Rattle.listing.specs.Lines.{labelled, totalsText}
+use Rattle.lines.specs.Lines.{labelled, totalsText}
 use borrow.Author.Needs.{needs}
-use Rattle.listing.proofs.lines.totals.Statement.{statement}
-use Rattle.listing.proofs.lines.totals.Tie as tie
+use Rattle.lines.proofs.totals.Statement.{statement}
+use Rattle.lines.proofs.totals.Tie as tie
 
 slice-aggregate-labelled : tie.Need-slice-aggregate-labelled
 slice-aggregate-labelled c = search needs

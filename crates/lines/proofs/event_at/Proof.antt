@@ -1,9 +1,9 @@
-use Rattle.listing.proofs.Pieces.{event-put, refused-put}
+use Rattle.lines.proofs.Pieces.{event-put, refused-put}
 use native.Mathlib.Omega.{arith}
-use Rattle.listing.specs.declared.Event.the-variants.{Read, Refused, Dropped, Open}
+use Rattle.lines.specs.declared.Event.the-variants.{Read, Refused, Dropped, Open}
 use borrow.Author.Needs.{needs}
-use Rattle.listing.proofs.lines.event_at.Statement.{statement}
-use Rattle.listing.proofs.lines.event_at.Tie as tie
+use Rattle.lines.proofs.event_at.Statement.{statement}
+use Rattle.lines.proofs.event_at.Tie as tie
 
 enum-known-event : tie.Need-enum-known-event
 enum-known-event c = search needs

@@ -1,17 +1,15 @@
 -- The listing's exact text.
 -- Assumes nothing.
 use mathlib.Core.Path.{_≡_}
-use mathlib.Core.Bool.{cond}
-use mathlib.Core.List.{List, [], _∷_, _++_}
+use mathlib.Core.Bool.{cond, Bool}
+use mathlib.Core.List.{List, [], _++_}
 use Prim.Native.Nat.{ℕ, _+_}
-use lib.Dec.{ltb}
 use lib.ListN.{length}
 use Rattle.lent.specs.Lent.{over, overAt}
 use Rattle.telegram.specs.Read.{faultNumber}
-use Rattle.listing.specs.declared.Event.{Event}
-use Rattle.listing.specs.declared.Event.the-variants.{Read, Refused, Dropped, Open}
 use Rattle.text.specs.Text.{ascii, newline, decimal}
-use Rattle.listing.specs.Events.{Placed, eventsOf, isOk, isRefused, isDropped, total}
+use Rattle.lines.specs.declared.Event.{Event}
+use Rattle.lines.specs.declared.Event.the-variants.{Read, Refused, Dropped, Open}
 
 unfoldable pub headerText : List ℕ
 headerText = ascii "Interbus capture" ++ newline
@@ -41,17 +39,9 @@ lineText place event = labelled (ascii "at") place ++ (eventText event ++ newlin
 unfoldable pub totalsText : ℕ → ℕ → ℕ → List ℕ
 totalsText ok refused dropped = labelled (ascii "ok") ok ++ (labelled (ascii " refused") refused ++ (labelled (ascii " dropped") dropped ++ newline))
 
-unfoldable pub linesText : List Placed → List ℕ
-linesText [] = []
-linesText (e ∷ rest) = lineText (e .place) (e .event) ++ linesText rest
-
--- what the program writes for a capture
-unfoldable pub listingText : List ℕ → List ℕ
-listingText capture =
-    headerText
-    ++ cond (ltb 65536 (length capture)) longerText
-    (linesText (eventsOf capture)
-    ++ totalsText (total isOk (eventsOf capture)) (total isRefused (eventsOf capture)) (total isDropped (eventsOf capture)))
+-- what stands at the capture's end: "Without an open frame there is no open line."
+unfoldable pub endingText : Bool → ℕ → ℕ → ℕ → ℕ → List ℕ
+endingText inside start ok refused dropped = cond inside (lineText start Open) [] ++ totalsText ok refused dropped
 
 -- ---- the contracts of the calls that write text: its length is answered, and it takes the room's first bytes, as much as there is room for
 

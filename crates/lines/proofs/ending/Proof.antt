@@ -1,0 +1,39 @@
+use Rattle.lines.proofs.Pieces.{ending-open, ending-closed}
+use Rattle.lines.proofs.Laws.{line-short}
+use Rattle.lines.specs.declared.Event.the-variants.{Open}
+use borrow.Author.Needs.{needs}
+use Rattle.lines.proofs.ending.Statement.{statement}
+use Rattle.lines.proofs.ending.Tie as tie
+
+line-requires : tie.Need-line-requires
+line-requires c κs = search needs
+
+totals-requires : tie.Need-totals-requires
+totals-requires c κs = rw (c .before .before .before .line .ensures .0) (line-short (c .before .before .before .before .before .before .before .args .start) Open)
+
+same-length : tie.Need-same-length
+same-length c = search needs
+
+returns : tie.Need-returns
+returns c = ending-open (c .before .before .before .before .before .before .before .before .before .before .args .start) (c .before .before .before .before .before .before .before .before .before .before .args .ok) (c .before .before .before .before .before .before .before .before .before .before .args .refused) (c .before .before .before .before .before .before .before .before .before .before .args .dropped) (c .before .before .before .before .before .before .before .before .before .before .args .inside) _ _ _ _ _ (c .before .before .before .before .before .before .before .before .if1 .taken) (c .before .before .before .before .before .before .line .ensures) (c .before .before .totals .ensures)
+
+totals-requires-2 : tie.Need-totals-requires-2
+totals-requires-2 c κs = search needs
+
+same-length-2 : tie.Need-same-length-2
+same-length-2 c = search needs
+
+returns-2 : tie.Need-returns-2
+returns-2 c = ending-closed (c .before .before .before .before .before .before .args .start) (c .before .before .before .before .before .before .args .ok) (c .before .before .before .before .before .before .args .refused) (c .before .before .before .before .before .before .args .dropped) (c .before .before .before .before .before .before .args .inside) _ _ _ (c .before .before .before .before .if1 .left) (c .before .before .totals2 .ensures)
+
+pub ending-spec : {M : Type 1} → statement M
+ending-spec =
+    tie.close
+    (tie.spec
+    line-requires
+    totals-requires
+    same-length
+    returns
+    totals-requires-2
+    same-length-2
+    returns-2)

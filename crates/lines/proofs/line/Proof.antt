@@ -1,0 +1,44 @@
+use Rattle.lines.proofs.Pieces.{puts-then, puts-writes}
+use mathlib.Core.List.{_++_}
+use Rattle.text.specs.Text.{ascii, newline}
+use Rattle.lines.specs.Lines.{labelled, eventText, lineText}
+use borrow.Author.Needs.{needs}
+use Rattle.lines.proofs.line.Statement.{statement}
+use Rattle.lines.proofs.line.Tie as tie
+
+slice-aggregate-labelled : tie.Need-slice-aggregate-labelled
+slice-aggregate-labelled c = search needs
+
+labelled-requires : tie.Need-labelled-requires
+labelled-requires c κs = search needs
+
+event-at-requires : tie.Need-event-at-requires
+event-at-requires c κs = search needs
+
+slice-aggregate-word : tie.Need-slice-aggregate-word
+slice-aggregate-word c = search needs
+
+word-requires : tie.Need-word-requires
+word-requires c κs = search needs
+
+same-length : tie.Need-same-length
+same-length c = search needs
+
+returns : tie.Need-returns
+unfolding lineText
+returns c =
+    puts-writes _ _ _ _
+    (puts-then (labelled (ascii "at") (c .before .before .before .before .before .before .before .before .before .before .before .before .before .before .before .args .place)) (eventText (c .before .before .before .before .before .before .before .before .before .before .before .before .before .before .before .args .event) ++ newline) _ _ _ _ _ _ (c .before .before .before .before .before .before .before .before .before .before .before .labelled .ensures .0)
+    (puts-then (eventText (c .before .before .before .before .before .before .before .before .before .before .before .before .before .before .before .args .event)) newline _ _ _ _ _ _ (c .before .before .before .before .before .before .before .event-at .ensures .0) (c .before .before .word .ensures)))
+
+pub line-spec : {M : Type 1} → statement M
+line-spec =
+    tie.close
+    (tie.spec
+    slice-aggregate-labelled
+    labelled-requires
+    event-at-requires
+    slice-aggregate-word
+    word-requires
+    same-length
+    returns)
