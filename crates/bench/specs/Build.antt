@@ -2,7 +2,7 @@
 -- Assumes nothing.
 use mathlib.Core.Path.{_≡_}
 use mathlib.Core.Logic.{_⊎_}
-use mathlib.Core.Bool.{Bool, not, _&&_}
+use mathlib.Core.Bool.{not, _&&_}
 use mathlib.Core.List.{List, [], _∷_}
 use mathlib.Core.Option.{Option, some, none}
 use Prim.Native.Nat.{ℕ, _+_, _≤_, _<_}
@@ -11,7 +11,6 @@ use lib.ListN.{set}
 use Rattle.rows.specs.Rows.{Row, row, Test, test, firstOf}
 use Rattle.values.specs.Values.{sizeOf, isKind, fits, storedAt, NoKind, Unfit}
 use Rattle.values.specs.declared.Value.{Value}
-use Rattle.bench.specs.declared.Register.{Register}
 use Rattle.bench.specs.declared.Bench.{Bench}
 use Rattle.bench.specs.declared.Fault.{Fault}
 use Rattle.bench.specs.declared.Fault.the-variants.{WrongKind, WrongRights, AlreadyThere, Full, NotAModule, NotHeld, DoesNotFit}
@@ -87,7 +86,7 @@ withRegister bench number kind rights =
     record {
       address = bench .address;
       count = bench .count + 1;
-      registers = set (bench .registers) (bench .count) (record { number = number; kind = kind; rights = rights; value = 0 })
+      registers = set (bench .registers) (bench .count) (record { number = number; kind = kind; rights = rights; value = 0 });
     }
 
 abbrev pub Adds : Bench → ℕ → ℕ → ℕ → AfterBuild → Type 0
@@ -122,4 +121,4 @@ abbrev pub Sets : Bench → ℕ → Value → AfterBuild → Type 0
 Sets bench number value r =
     (r .answer ≡ buildAnswer (setRefusal bench number value))
     × (r .bench ≡ buildBench (setRefusal bench number value) bench
-      (withValue bench (placeOf bench number) (storedAt (sizeOf (registerAt bench (placeOf bench number) .kind)) value)))
+    (withValue bench (placeOf bench number) (storedAt (sizeOf (registerAt bench (placeOf bench number) .kind)) value)))

@@ -2,8 +2,8 @@
 -- A value is kept as the number that the register's bytes are, lowest first.
 -- Assumes nothing.
 use mathlib.Core.Path.{_≡_}
-use mathlib.Core.Bool.{Bool, true, false, cond}
-use Prim.Native.Nat.{ℕ, _+_, _/_, _%_, _<_, min}
+use mathlib.Core.Bool.{Bool, true, false}
+use Prim.Native.Nat.{ℕ, _/_, _%_, _<_, min}
 use lib.Dec.{eqb, ltb}
 use lib.ListN.{getD, replicate, set}
 use Rattle.first.specs.First.{firstPlace}
@@ -54,12 +54,12 @@ withValue bench place value =
       address = bench .address;
       count = bench .count;
       registers = set (bench .registers) place
-        (record {
-          number = registerAt bench place .number;
-          kind = registerAt bench place .kind;
-          rights = registerAt bench place .rights;
-          value = value
-        })
+          (record {
+            number = registerAt bench place .number;
+            kind = registerAt bench place .kind;
+            rights = registerAt bench place .rights;
+            value = value;
+          });
     }
 
 -- the paper's number of each refusal; a telegram that could not be read has its own

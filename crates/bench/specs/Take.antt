@@ -2,7 +2,7 @@
 -- Assumes nothing.
 use mathlib.Core.Path.{_≡_}
 use mathlib.Core.Logic.{_≢_, _⊎_}
-use mathlib.Core.Bool.{Bool, true, false, cond, not, _||_, _&&_}
+use mathlib.Core.Bool.{Bool, cond, not, _||_, _&&_}
 use mathlib.Core.List.{List, [], _∷_}
 use mathlib.Core.Option.{Option, some, none}
 use Prim.Native.Nat.{ℕ, _<_}
@@ -28,9 +28,9 @@ use Rattle.bench.specs.Register.{registerAt, placeOf, isHeld, hasRight, 
 
 -- ---- what a request does to a register: the reply's type, how many bytes of the value it carries, and the value afterwards
 
--- "anything else, an unknown register included: nack, nothing changed"
-abbrev pub nack : Register → Deed
-nack register = record { sort = 0; size = 0; value = register .value }
+-- "Ack and nack carry the register and no data."
+abbrev pub nack : ℕ → Deed
+nack value = record { sort = 0; size = 0; value = value }
 
 abbrev pub ack : ℕ → Deed
 ack value = record { sort = 3; size = 0; value = value }
@@ -38,32 +38,35 @@ ack value = record { sort = 3; size = 0; value = value }
 abbrev pub datagram : Register → Deed
 datagram register = record { sort = 8; size = sizeOf (register .kind); value = register .value }
 
--- "read with the right and no data: a datagram with the value"
-abbrev pub readDeed : Register → List ℕ → Deed
-readDeed register bytes = cond (hasRight register 1 && eqb (length bytes) 0) (datagram register) (nack register)
+-- "read with the right and no data: a datagram with the value"; n is how many data bytes there are
+unfoldable pub readDeed : Register → ℕ → Deed
+readDeed register n = cond (hasRight register 1 && eqb n 0) (datagram register) (nack (register .value))
 
 -- "write with the right and exactly the kind's size of data: ack, and the value is those bytes";
 -- "set, clear or toggle with right 4 and that size: ack"
-abbrev pub writeDeed : Register → ℕ → List ℕ → ℕ → Deed
-writeDeed register right bytes value = cond (hasRight register right && eqb (length bytes) (sizeOf (register .kind))) (ack value) (nack register)
+unfoldable pub writeDeed : Register → ℕ → ℕ → ℕ → Deed
+writeDeed register right n value = cond (hasRight register right && eqb n (sizeOf (register .kind))) (ack value) (nack (register .value))
 
-abbrev pub heldDeed : Register → ℕ → List ℕ → Deed
+-- "anything else [..]: nack, nothing changed"
+unfoldable pub heldDeed : Register → ℕ → List ℕ → Deed
 heldDeed register sort bytes =
-    cond (eqb sort 4) (readDeed register bytes)
-    (cond (eqb sort 5) (writeDeed register 2 bytes (natural bytes))
-    (cond (eqb sort 6) (writeDeed register 4 bytes (setBits (register .value) (natural bytes)))
-    (cond (eqb sort 7) (writeDeed register 4 bytes (clearBits (register .value) (natural bytes)))
-    (cond (eqb sort 9) (writeDeed register 4 bytes (toggleBits (register .value) (natural bytes))) (nack register)))))
+    cond (eqb sort 4) (readDeed register (length bytes))
+    (cond (eqb sort 5) (writeDeed register 2 (length bytes) (natural bytes))
+    (cond (eqb sort 6) (writeDeed register 4 (length bytes) (setBits (register .value) (natural bytes)))
+    (cond (eqb sort 7) (writeDeed register 4 (length bytes) (clearBits (register .value) (natural bytes)))
+    (cond (eqb sort 9) (writeDeed register 4 (length bytes) (toggleBits (register .value) (natural bytes))) (nack (register .value))))))
 
+-- "an unknown register included"
 unfoldable pub deedOf : Bench → Fields → List ℕ → Deed
 deedOf bench t bytes =
-    cond (isHeld bench (t .register)) (heldDeed (registerAt bench (placeOf bench (t .register))) (t .sort) bytes) (nack (registerAt bench (placeOf bench (t .register))))
+    cond (isHeld bench (t .register)) (heldDeed (registerAt bench (placeOf bench (t .register))) (t .sort) bytes) (nack 0)
 
--- "A telegram for it is answered to the telegram's source": from the bench's own address, with the register. "Ack and nack carry the register and
--- no data."
+-- "A telegram for it is answered to the telegram's source": from the bench's own address, with the register
+unfoldable pub replyFor : Bench → Fields → Deed → List ℕ
+replyFor bench t deed = telegramFor (t .source) (bench .address) (deed .sort) (t .register) (bytesOf (deed .size) (deed .value))
+
 unfoldable pub replyOf : Bench → Fields → List ℕ → List ℕ
-replyOf bench t bytes =
-    telegramFor (t .source) (bench .address) (deedOf bench t bytes .sort) (t .register) (bytesOf (deedOf bench t bytes .size) (deedOf bench t bytes .value))
+replyOf bench t bytes = replyFor bench t (deedOf bench t bytes)
 
 -- ---- rows 35 to 37
 
@@ -93,14 +96,21 @@ takeTests bench t bytes room =
     ∷ test (ltb room (length (replyOf bench t bytes))) NoRoom
     ∷ []
 
+-- what keeps the bench silent once the telegram was read: rows 35 to 37
+unfoldable pub requestRefusal : Bench → Fields → List ℕ → ℕ → Option Fault
+requestRefusal bench t bytes room = firstOf (takeTests bench t bytes room)
+
+-- row 37 alone
+abbrev pub roomRefusal : List ℕ → ℕ → Option Fault
+roomRefusal reply room = firstOf (test (ltb room (length reply)) NoRoom ∷ [])
+
 -- the reader's refusal, passed up whole; "It reads with 240 bytes of room of its own"
 abbrev pub unread : Option Unreadable → Option Fault
 unread (some f) = some (Unread f)
 unread none = none
 
 unfoldable pub takeRefusal : Bench → List ℕ → ℕ → Option Fault
-takeRefusal bench frame room =
-    orLater (unread (readRefusal frame 240)) (firstOf (takeTests bench (fieldsOf (messageOf frame)) (dataOf (messageOf frame)) room))
+takeRefusal bench frame room = orLater (unread (readRefusal frame 240)) (requestRefusal bench (fieldsOf (messageOf frame)) (dataOf (messageOf frame)) room)
 
 -- ---- the answer, the bench and the buffer, each from the refusal
 
@@ -109,21 +119,30 @@ takeAnswer (some f) reply = Silent f
 takeAnswer none reply = Answered (length reply)
 
 -- the register's value afterwards; where the register is not held, nothing changes
-abbrev pub doneTo : Bench → Fields → List ℕ → Bench
-doneTo bench t bytes =
-    cond (isHeld bench (t .register)) (withValue bench (placeOf bench (t .register)) (deedOf bench t bytes .value)) bench
+unfoldable pub doneTo : Bench → ℕ → Deed → Bench
+doneTo bench number deed = cond (isHeld bench number) (withValue bench (placeOf bench number) (deed .value)) bench
 
-abbrev pub takeBench : Option Fault → Bench → Fields → List ℕ → Bench
-takeBench (some f) bench t bytes = bench
-takeBench none bench t bytes = doneTo bench t bytes
+abbrev pub takeBench : Option Fault → Bench → Bench → Bench
+takeBench (some f) before after = before
+takeBench none before after = after
 
 abbrev pub takeRoom : Option Fault → List ℕ → List ℕ → List ℕ
 takeRoom (some f) reply room = room
 takeRoom none reply room = over reply room
 
+-- a telegram is answered, or refused: what the call hands back, and what the lent room holds then
+abbrev pub Answers : Option Fault → Bench → Bench → List ℕ → List ℕ → AfterTake → List ℕ → Type 0
+Answers refusal bench after reply room r room′ =
+    (r .answer ≡ takeAnswer refusal reply) × (r .bench ≡ takeBench refusal bench after) × (room′ ≡ takeRoom refusal reply room)
+
+-- of a telegram that was read
+abbrev pub Requests : Bench → Fields → List ℕ → List ℕ → AfterTake → List ℕ → Type 0
+Requests bench t bytes room r room′ =
+    Answers (requestRefusal bench t bytes (length room)) bench (doneTo bench (t .register) (deedOf bench t bytes)) (replyOf bench t bytes) room r room′
+
 -- the contract of `take`
 abbrev pub Takes : Bench → List ℕ → List ℕ → AfterTake → List ℕ → Type 0
 Takes bench frame room r room′ =
-    (r .answer ≡ takeAnswer (takeRefusal bench frame (length room)) (replyOf bench (fieldsOf (messageOf frame)) (dataOf (messageOf frame))))
-    × (r .bench ≡ takeBench (takeRefusal bench frame (length room)) bench (fieldsOf (messageOf frame)) (dataOf (messageOf frame)))
-    × (room′ ≡ takeRoom (takeRefusal bench frame (length room)) (replyOf bench (fieldsOf (messageOf frame)) (dataOf (messageOf frame))) room)
+    Answers (takeRefusal bench frame (length room)) bench
+    (doneTo bench (fieldsOf (messageOf frame) .register) (deedOf bench (fieldsOf (messageOf frame)) (dataOf (messageOf frame))))
+    (replyOf bench (fieldsOf (messageOf frame)) (dataOf (messageOf frame))) room r room′

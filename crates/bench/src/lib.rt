@@ -1,5 +1,15 @@
 // A bench module to test against: one address, up to 32 registers, and the answers that the maker
 // describes. specs/ says what each call answers.
+mod build;
+mod held;
+mod request;
+
+pub use build::add;
+pub use build::make;
+pub use build::set;
+pub use held::look;
+pub use request::take;
+ghost use Rattle.bench.specs.Register.{Numbers};
 
 // A register that the bench holds. Rights are 1 read, 2 write, 4 bit writes, summed; the value is
 // the number that its bytes are, lowest first.
@@ -66,4 +76,23 @@ pub struct AfterBuild {
 pub struct AfterTake {
     pub bench: Bench,
     pub answer: Taking,
+}
+
+// The paper's number of a refusal; of a telegram that could not be read, the reader's.
+pub fn number(fault: Fault) -> u8
+    ensures { λ r. ⌜ Numbers fault r ⌝ }
+{
+    match fault {
+        Fault::Unread(why) => telegram::number(why),
+        Fault::WrongKind => 30,
+        Fault::WrongRights => 31,
+        Fault::AlreadyThere => 32,
+        Fault::Full => 33,
+        Fault::NotAModule => 34,
+        Fault::OtherAddress => 35,
+        Fault::NotARequest => 36,
+        Fault::NoRoom => 37,
+        Fault::NotHeld => 38,
+        Fault::DoesNotFit => 43,
+    }
 }
