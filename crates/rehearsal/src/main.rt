@@ -1,13 +1,16 @@
 // Rehearses a night without a rig: reads call lines from standard input to its end and writes one
 // answer line for each. It calls the library's public functions and decides nothing itself.
+mod modules;
 mod numbers;
 mod say;
 mod telegrams;
 mod tickets;
 mod words;
 
+use crate::modules::Shown;
 use crate::tickets::Told;
 use crate::words::Words;
+use bench::Bench;
 use desk::Desk;
 use libc::STDIN_FILENO;
 use libc::STDOUT_FILENO;
@@ -17,11 +20,24 @@ ghost use lib.ListN.{length};
 // A line that is longer than this is a bad line.
 const LONGEST: usize = 8192;
 
-// What is gathered of the line that has not ended yet, and what the calls so far have made.
+// What the calls so far have made. The bench counts once one was made.
+struct Made {
+    desk: Desk,
+    bench: Bench,
+    has_bench: bool,
+}
+
+// What is gathered of the line that has not ended yet.
 struct Gathered {
     used: usize,
     long: bool,
-    desk: Desk,
+    made: Made,
+}
+
+// What the calls have made after one more, and how long its answer is.
+struct Said {
+    made: Made,
+    at: usize,
 }
 
 fn main() {
@@ -33,7 +49,7 @@ fn main() {
 // Reads chunk after chunk. The line and the answer have their space lent, once for all.
 fn run(line: &mut [u8], out: &mut [u8]) {
     let mut chunk = io::large_buffer();
-    let mut gathered = next_line(desk::fresh());
+    let mut gathered = next_line(nothing());
     let mut budget: u64 = 18446744073709551615;
     while 0 < budget {
         budget -= 1;
@@ -48,12 +64,22 @@ fn run(line: &mut [u8], out: &mut [u8]) {
     }
 }
 
-// Nothing gathered yet, with the desk as it is.
-fn next_line(desk: Desk) -> Gathered {
+fn nothing() -> Made {
+    let none = bench::make(0);
+    let bench = none.bench;
+    Made {
+        desk: desk::fresh(),
+        bench: bench,
+        has_bench: false,
+    }
+}
+
+// Nothing gathered yet, with what was made so far.
+fn next_line(made: Made) -> Gathered {
     Gathered {
         used: 0,
         long: false,
-        desk: desk,
+        made: made,
     }
 }
 
@@ -109,11 +135,11 @@ fn gather(part: &[u8], line: &mut [u8], before: Gathered) -> Gathered {
 }
 
 // Answers a line that has ended. One write for a whole answer.
-fn end_line(line: &[u8], gathered: Gathered, out: &mut [u8]) -> Desk {
-    let told = answer_to(line, gathered, out);
-    let at = say::text(out, told.at, b"\n");
+fn end_line(line: &[u8], gathered: Gathered, out: &mut [u8]) -> Made {
+    let said = answer_to(line, gathered, out);
+    let at = say::text(out, said.at, b"\n");
     show(out, at);
-    told.desk
+    said.made
 }
 
 fn show(out: &[u8], at: usize) {
@@ -121,24 +147,60 @@ fn show(out: &[u8], at: usize) {
     io::write_all(STDOUT_FILENO, &out[..n]);
 }
 
-fn answer_to(line: &[u8], gathered: Gathered, out: &mut [u8]) -> Told {
+fn answer_to(line: &[u8], gathered: Gathered, out: &mut [u8]) -> Said {
     let used = gathered.used;
-    let desk = gathered.desk;
+    let made = gathered.made;
     if gathered.long {
-        return Told {
-            desk: desk,
+        return Said {
+            made: made,
             at: say::bad_line(out),
         };
     }
     if used <= line.len() {
-        return answer(desk, &line[0..used], out);
+        return answer(made, &line[0..used], out);
     }
-    Told { desk: desk, at: 0 }
+    Said { made: made, at: 0 }
 }
 
-// Which call it is: those on the desk, and those that keep nothing.
-fn answer(desk: Desk, line: &[u8], out: &mut [u8]) -> Told {
+// Which call it is: those on the desk, those on the bench, and those that keep nothing.
+fn answer(made: Made, line: &[u8], out: &mut [u8]) -> Said {
     let w = words::word(words::start(), line);
+    if words::starts(w, line, b"desk.") {
+        let desk = made.desk;
+        return with_desk(made, answer_desk(desk, w, line, out));
+    }
+    if words::starts(w, line, b"bench.") {
+        let bench = made.bench;
+        return with_bench(made, answer_bench(bench, made.has_bench, w, line, out));
+    }
+    Said {
+        made: made,
+        at: answer_kept(w, line, out),
+    }
+}
+
+fn with_desk(made: Made, told: Told) -> Said {
+    let mut next = made;
+    let desk = told.desk;
+    next.desk = desk;
+    Said {
+        made: next,
+        at: told.at,
+    }
+}
+
+fn with_bench(made: Made, shown: Shown) -> Said {
+    let mut next = made;
+    let bench = shown.bench;
+    next.bench = bench;
+    next.has_bench = shown.made;
+    Said {
+        made: next,
+        at: shown.at,
+    }
+}
+
+fn answer_desk(desk: Desk, w: Words, line: &[u8], out: &mut [u8]) -> Told {
     if words::is(w, line, b"desk.open") {
         return tickets::open(desk, w, line, out);
     }
@@ -151,20 +213,32 @@ fn answer(desk: Desk, line: &[u8], out: &mut [u8]) -> Told {
     if words::is(w, line, b"desk.expire") {
         return tickets::expire(desk, w, line, out);
     }
-    answer_more(desk, w, line, out)
-}
-
-fn answer_more(desk: Desk, w: Words, line: &[u8], out: &mut [u8]) -> Told {
     if words::is(w, line, b"desk.new") {
         return tickets::renew(desk, w, line, out);
     }
     if words::is(w, line, b"desk.dump") {
         return tickets::dump(desk, w, line, out);
     }
-    Told {
-        desk: desk,
-        at: answer_kept(w, line, out),
+    tickets::bad(desk, out)
+}
+
+fn answer_bench(bench: Bench, made: bool, w: Words, line: &[u8], out: &mut [u8]) -> Shown {
+    if words::is(w, line, b"bench.tele") {
+        return modules::tele(bench, made, w, line, out);
     }
+    if words::is(w, line, b"bench.add") {
+        return modules::add(bench, made, w, line, out);
+    }
+    if words::is(w, line, b"bench.set") {
+        return modules::set(bench, made, w, line, out);
+    }
+    if words::is(w, line, b"bench.dump") {
+        return modules::dump(bench, made, w, line, out);
+    }
+    if words::is(w, line, b"bench.new") {
+        return modules::renew(bench, made, w, line, out);
+    }
+    modules::bad(bench, made, out)
 }
 
 fn answer_kept(w: Words, line: &[u8], out: &mut [u8]) -> usize {

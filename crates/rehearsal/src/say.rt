@@ -20,6 +20,14 @@ pub fn field(out: &mut [u8], at: usize, name: &[u8], n: u64) -> usize {
     number(out, next, n)
 }
 
+// A comma between the entries of a list that starts at `from`.
+pub fn comma(out: &mut [u8], from: usize, at: usize) -> usize {
+    if at == from {
+        return at;
+    }
+    text(out, at, b",")
+}
+
 // Bytes in hex, `-` for none.
 pub fn hex(out: &mut [u8], at: usize, bytes: &[u8]) -> usize {
     if bytes.len() == 0 {

@@ -233,18 +233,11 @@ fn ticket(d: Desk, address: u8, out: &mut [u8], from: usize, at: usize) -> usize
     match desk::look(d, address) {
         Seen::Nothing => at,
         Seen::Open(t) => {
-            let next = comma(out, from, at);
+            let next = say::comma(out, from, at);
             let behind = say::number(out, next, address as u64);
             ticket_fields(t, out, behind)
         }
     }
-}
-
-fn comma(out: &mut [u8], from: usize, at: usize) -> usize {
-    if at == from {
-        return at;
-    }
-    say::text(out, at, b",")
 }
 
 fn ticket_fields(t: Ticket, out: &mut [u8], at: usize) -> usize {
@@ -260,7 +253,7 @@ fn request_fields(t: Ticket, out: &mut [u8], at: usize) -> usize {
     say::field(out, c, b":", t.register as u64)
 }
 
-fn bad(d: Desk, out: &mut [u8]) -> Told {
+pub fn bad(d: Desk, out: &mut [u8]) -> Told {
     Told {
         desk: d,
         at: say::bad_line(out),

@@ -100,6 +100,21 @@ pub fn is(w: Words, line: &[u8], name: &[u8]) -> bool {
     false
 }
 
+// Whether the word last taken begins with this.
+pub fn starts(w: Words, line: &[u8], with: &[u8]) -> bool {
+    let from = w.from;
+    let to = w.to;
+    if to <= line.len() {
+        if from <= to {
+            if with.len() <= to - from {
+                let end = from + with.len();
+                return check::same(&line[from..end], with);
+            }
+        }
+    }
+    false
+}
+
 fn bad(w: Words) -> Words {
     let mut next = w;
     next.good = false;

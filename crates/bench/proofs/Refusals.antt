@@ -1,0 +1,120 @@
+-- What each call that builds a bench refuses, and what it hands back then.
+-- Assumes nothing.
+use mathlib.Core.Path.{_≡_, refl, sym, ap, ap₂, _∙_}
+use mathlib.Core.Bool.{Bool, true, false, cond, not, _&&_}
+use mathlib.Core.Option.{Option, some, none}
+use Prim.Native.Nat.{ℕ, _≤_, _<_}
+use native.Mathlib.Omega.{arith}
+use borrow.Author.Tests.{lt-ltb, le-ltb, le-leb, lt-leb}
+use Rattle.values.specs.declared.Stored.{Stored}
+use Rattle.values.specs.Values.{Keeps, sizeOf, storedAt, storedValue}
+use Rattle.values.specs.declared.Fault.{Fault as Unstored}
+use Rattle.rows.proofs.Laws.{clash}
+use Rattle.values.proofs.Refusals.{stored-none, stored-as, stored-refused}
+use Rattle.values.specs.Values.{isKind, fits, storedRefusal}
+use Rattle.values.specs.declared.Value.{Value}
+use Rattle.values.specs.declared.Fault.the-variants.{UnknownKind}
+use Rattle.bench.specs.Build.{Sets}
+use Rattle.bench.specs.Build.{buildAnswer, buildBench, makeRefusal, addRefusal, setRefusal}
+use Rattle.bench.specs.Register.{registerAt, placeOf, isHeld, heldCount, withValue}
+use Rattle.bench.specs.declared.Bench.{Bench}
+use Rattle.bench.specs.declared.Fault.{Fault}
+use Rattle.bench.specs.declared.Fault.the-variants.{WrongKind, WrongRights, AlreadyThere, Full, NotAModule, NotHeld, DoesNotFit}
+use Rattle.bench.specs.declared.Building.the-variants.{Done, Refused}
+use Rattle.bench.specs.declared.AfterBuild.{AfterBuild}
+use Rattle.bench.proofs.Places.{held-so}
+use Rattle.bench.specs.declared.Register.{Register}
+use Rattle.values.specs.declared.Stored.the-variants as stored
+use Rattle.values.specs.declared.Fault.the-variants as values
+
+pub build-refused : (o : Option Fault) (f : Fault) (before after : Bench) (r : AfterBuild) → o ≡ some f → (r .answer ≡ Refused f) × (r .bench ≡ before)
+    → (r .answer ≡ buildAnswer o) × (r .bench ≡ buildBench o before after)
+build-refused o f before after r e g = rw e g
+
+pub build-done : (o : Option Fault) (before after : Bench) (r : AfterBuild) → o ≡ none → (r .answer ≡ Done) × (r .bench ≡ after)
+    → (r .answer ≡ buildAnswer o) × (r .bench ≡ buildBench o before after)
+build-done o before after r e g = rw e g
+
+-- ---- make
+
+pub make-low : (address : ℕ) → address ≡ 0 → makeRefusal address ≡ some NotAModule
+unfolding makeRefusal
+make-low address e = rw e
+
+pub make-high : (address : ℕ) → 160 < address → makeRefusal address ≡ some NotAModule
+unfolding makeRefusal
+make-high address h = rw (le-leb 1 address (omega arith), lt-leb address 160 h)
+
+pub make-so : (address : ℕ) → (address ≡ 0 → ⊥) → address ≤ 160 → makeRefusal address ≡ none
+unfolding makeRefusal
+make-so address n h = rw (le-leb 1 address (omega arith), le-leb address 160 h)
+
+-- ---- add
+
+module _ (bench : Bench) (number kind rights : ℕ) where
+  pub add-kind : isKind kind ≡ false → addRefusal bench number kind rights ≡ some WrongKind
+  unfolding addRefusal
+  add-kind k = rw k
+
+  pub add-rights : isKind kind ≡ true → 7 < rights → addRefusal bench number kind rights ≡ some WrongRights
+  unfolding addRefusal
+  add-rights k h = rw (k, lt-ltb 7 rights h)
+
+  pub add-there : isKind kind ≡ true → rights ≤ 7 → isHeld bench number ≡ true → addRefusal bench number kind rights ≡ some AlreadyThere
+  unfolding addRefusal
+  add-there k h t = rw (k, le-ltb 7 rights h, t)
+
+  pub add-full : isKind kind ≡ true → rights ≤ 7 → isHeld bench number ≡ false → 32 ≤ bench .count → addRefusal bench number kind rights ≡ some Full
+  unfolding addRefusal
+  add-full k h t n = rw (k, le-ltb 7 rights h, t, le-leb 32 (bench .count) n)
+
+  pub add-so : isKind kind ≡ true → rights ≤ 7 → isHeld bench number ≡ false → bench .count < 32 → addRefusal bench number kind rights ≡ none
+  unfolding addRefusal
+  add-so k h t n = rw (k, le-ltb 7 rights h, t, lt-leb 32 (bench .count) n)
+
+-- ---- set
+
+module _ (bench : Bench) (number : ℕ) (value : Value) where
+  abbrev pub kindOf : ℕ
+  kindOf = registerAt bench (placeOf bench number) .kind
+
+  pub set-not : isHeld bench number ≡ false → setRefusal bench number value ≡ some NotHeld
+  unfolding setRefusal
+  set-not t = rw t
+
+  pub set-unfit : (f : Unstored) → isHeld bench number ≡ true → storedRefusal kindOf value ≡ some f → setRefusal bench number value ≡ some DoesNotFit
+  unfolding setRefusal storedRefusal
+  set-unfit f t = by-tests (isKind kindOf) (fits kindOf value)
+    where
+      by-tests : (a b : Bool) → cond (not a) (some UnknownKind) (cond (not b) (some values.DoesNotFit) none) ≡ some f
+          → cond (not (isHeld bench number)) (some NotHeld) (cond (not (a && b)) (some DoesNotFit) none) ≡ some DoesNotFit
+      by-tests true true e = clash (cc)
+      by-tests true false e = rw t
+      by-tests false b e = rw t
+
+  pub set-so : isHeld bench number ≡ true → storedRefusal kindOf value ≡ none → setRefusal bench number value ≡ none
+  unfolding setRefusal
+  set-so t e = let kept = stored-none kindOf value e in rw (t, kept .0, kept .1)
+
+-- the call's steps: the place, the register there, and what its kind keeps of the value
+module _ (bench : Bench) (number place n : ℕ) (value : Value) (is : place ≡ placeOf bench number) (many : n ≡ heldCount bench) (under : place < n)
+    (register : Register) (there : register ≡ registerAt bench place) (kept : Stored) (keeps : Keeps (register .kind) value kept) where
+  is-there : register ≡ registerAt bench (placeOf bench number)
+  is-there = there ∙ ap (registerAt bench) is
+
+  keeps-there : kept ≡ storedValue (kindOf bench number value) value
+  keeps-there = keeps ∙ ap (λ (r : Register). storedValue (r .kind) value) is-there
+
+  pub set-refused : (f : Unstored) (r : AfterBuild) → kept ≡ stored.Refused f → (r .answer ≡ Refused DoesNotFit) × (r .bench ≡ bench) → Sets bench number value r
+  set-refused f r e g =
+      build-refused (setRefusal bench number value) DoesNotFit bench
+      (withValue bench (placeOf bench number) (storedAt (sizeOf (registerAt bench (placeOf bench number) .kind)) value)) r
+      (set-unfit bench number value f (held-so bench number place n is many under) (stored-refused (kindOf bench number value) value f (sym keeps-there ∙ e))) g
+
+  pub set-done : (v : ℕ) (after : Bench) → kept ≡ stored.As v → after ≡ withValue bench place v → Sets bench number value (record { bench = after; answer = Done })
+  set-done v after e a =
+      let so = stored-as (kindOf bench number value) value v (sym keeps-there ∙ e) in
+      build-done (setRefusal bench number value) bench
+      (withValue bench (placeOf bench number) (storedAt (sizeOf (registerAt bench (placeOf bench number) .kind)) value)) (record { bench = after; answer = Done })
+      (set-so bench number value (held-so bench number place n is many under) (so .0))
+      (refl, a ∙ ap₂ (λ (p v : ℕ). withValue bench p v) is (so .1))

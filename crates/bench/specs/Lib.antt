@@ -1,0 +1,3 @@
+pub mod Register
+pub mod Build
+pub mod Take

@@ -1,0 +1,148 @@
+-- A telegram for the bench: what it does and what is answered, or which number keeps it silent.
+-- Assumes nothing.
+use mathlib.Core.Path.{_≡_}
+use mathlib.Core.Logic.{_≢_, _⊎_}
+use mathlib.Core.Bool.{Bool, cond, not, _||_, _&&_}
+use mathlib.Core.List.{List, [], _∷_}
+use mathlib.Core.Option.{Option, some, none}
+use Prim.Native.Nat.{ℕ, _<_}
+use lib.Dec.{eqb, ltb}
+use lib.ListN.{length}
+use Rattle.lent.specs.Lent.{over}
+use Rattle.rows.specs.Rows.{Row, row, Test, test, firstOf, orLater}
+use Rattle.frame.specs.Frame.{messageOf}
+use Rattle.telegram.specs.Read.{readRefusal, fieldsOf, dataOf}
+use Rattle.telegram.specs.Write.{telegramFor}
+use Rattle.telegram.specs.declared.Fault.{Fault as Unreadable}
+use Rattle.telegram.specs.declared.Fields.{Fields}
+use Rattle.values.specs.Values.{sizeOf, natural, bytesOf, setBits, clearBits, toggleBits}
+use Rattle.bench.specs.declared.Register.{Register}
+use Rattle.bench.specs.declared.Bench.{Bench}
+use Rattle.bench.specs.declared.Deed.{Deed}
+use Rattle.bench.specs.declared.Fault.{Fault}
+use Rattle.bench.specs.declared.Fault.the-variants.{Unread, OtherAddress, NotARequest, NoRoom}
+use Rattle.bench.specs.declared.Taking.{Taking}
+use Rattle.bench.specs.declared.Taking.the-variants.{Answered, Silent}
+use Rattle.bench.specs.declared.AfterTake.{AfterTake}
+use Rattle.bench.specs.Register.{registerAt, placeOf, isHeld, hasRight, withValue}
+
+-- ---- what a request does to a register: the reply's type, how many bytes of the value it carries, and the value afterwards
+
+-- "Ack and nack carry the register and no data."
+abbrev pub nack : ℕ → Deed
+nack value = record { sort = 0; size = 0; value = value }
+
+abbrev pub ack : ℕ → Deed
+ack value = record { sort = 3; size = 0; value = value }
+
+abbrev pub datagram : Register → Deed
+datagram register = record { sort = 8; size = sizeOf (register .kind); value = register .value }
+
+-- "read with the right and no data: a datagram with the value"; n is how many data bytes there are
+unfoldable pub readDeed : Register → ℕ → Deed
+readDeed register n = cond (hasRight register 1 && eqb n 0) (datagram register) (nack (register .value))
+
+-- "write with the right and exactly the kind's size of data: ack, and the value is those bytes";
+-- "set, clear or toggle with right 4 and that size: ack"
+unfoldable pub writeDeed : Register → ℕ → ℕ → ℕ → Deed
+writeDeed register right n value = cond (hasRight register right && eqb n (sizeOf (register .kind))) (ack value) (nack (register .value))
+
+-- "anything else [..]: nack, nothing changed"
+unfoldable pub heldDeed : Register → ℕ → List ℕ → Deed
+heldDeed register sort bytes =
+    cond (eqb sort 4) (readDeed register (length bytes))
+    (cond (eqb sort 5) (writeDeed register 2 (length bytes) (natural bytes))
+    (cond (eqb sort 6) (writeDeed register 4 (length bytes) (setBits (register .value) (natural bytes)))
+    (cond (eqb sort 7) (writeDeed register 4 (length bytes) (clearBits (register .value) (natural bytes)))
+    (cond (eqb sort 9) (writeDeed register 4 (length bytes) (toggleBits (register .value) (natural bytes))) (nack (register .value))))))
+
+-- "an unknown register included"
+unfoldable pub deedOf : Bench → Fields → List ℕ → Deed
+deedOf bench t bytes =
+    cond (isHeld bench (t .register)) (heldDeed (registerAt bench (placeOf bench (t .register))) (t .sort) bytes) (nack 0)
+
+-- "A telegram for it is answered to the telegram's source": from the bench's own address, with the register
+unfoldable pub replyFor : Bench → Fields → Deed → List ℕ
+replyFor bench t deed = telegramFor (t .source) (bench .address) (deed .sort) (t .register) (bytesOf (deed .size) (deed .value))
+
+unfoldable pub replyOf : Bench → Fields → List ℕ → List ℕ
+replyOf bench t bytes = replyFor bench t (deedOf bench t bytes)
+
+-- ---- rows 35 to 37
+
+-- 35: "telegram for another address"
+unfoldable pub IsOtherAddress : Bench → Fields → Type 0
+IsOtherAddress bench t = t .destination ≢ bench .address
+
+-- 36: "type 0, 1, 2, 3 or 8"
+unfoldable pub IsNotARequest : Fields → Type 0
+IsNotARequest t = (t .sort ≡ 0) ⊎ ((t .sort ≡ 1) ⊎ ((t .sort ≡ 2) ⊎ ((t .sort ≡ 3) ⊎ (t .sort ≡ 8))))
+
+-- 37: "buffer shorter than the reply"
+unfoldable pub IsNoRoom : List ℕ → ℕ → Type 0
+IsNoRoom reply room = room < length reply
+
+unfoldable pub takeRows : Bench → Fields → List ℕ → ℕ → List (Row Fault)
+takeRows bench t bytes room =
+    row (IsOtherAddress bench t) OtherAddress ∷ row (IsNotARequest t) NotARequest ∷ row (IsNoRoom (replyOf bench t bytes) room) NoRoom ∷ []
+
+abbrev pub isAnswer : ℕ → Bool
+isAnswer sort = eqb sort 0 || (eqb sort 1 || (eqb sort 2 || (eqb sort 3 || eqb sort 8)))
+
+abbrev pub takeTests : Bench → Fields → List ℕ → ℕ → List (Test Fault)
+takeTests bench t bytes room =
+    test (not (eqb (t .destination) (bench .address))) OtherAddress
+    ∷ test (isAnswer (t .sort)) NotARequest
+    ∷ test (ltb room (length (replyOf bench t bytes))) NoRoom
+    ∷ []
+
+-- what keeps the bench silent once the telegram was read: rows 35 to 37
+unfoldable pub requestRefusal : Bench → Fields → List ℕ → ℕ → Option Fault
+requestRefusal bench t bytes room = firstOf (takeTests bench t bytes room)
+
+-- row 37 alone
+abbrev pub roomRefusal : List ℕ → ℕ → Option Fault
+roomRefusal reply room = firstOf (test (ltb room (length reply)) NoRoom ∷ [])
+
+-- the reader's refusal, passed up whole; "It reads with 240 bytes of room of its own"
+abbrev pub unread : Option Unreadable → Option Fault
+unread (some f) = some (Unread f)
+unread none = none
+
+unfoldable pub takeRefusal : Bench → List ℕ → ℕ → Option Fault
+takeRefusal bench frame room = orLater (unread (readRefusal frame 240)) (requestRefusal bench (fieldsOf (messageOf frame)) (dataOf (messageOf frame)) room)
+
+-- ---- the answer, the bench and the buffer, each from the refusal
+
+abbrev pub takeAnswer : Option Fault → List ℕ → Taking
+takeAnswer (some f) reply = Silent f
+takeAnswer none reply = Answered (length reply)
+
+-- the register's value afterwards; where the register is not held, nothing changes
+unfoldable pub doneTo : Bench → ℕ → Deed → Bench
+doneTo bench number deed = cond (isHeld bench number) (withValue bench (placeOf bench number) (deed .value)) bench
+
+abbrev pub takeBench : Option Fault → Bench → Bench → Bench
+takeBench (some f) before after = before
+takeBench none before after = after
+
+abbrev pub takeRoom : Option Fault → List ℕ → List ℕ → List ℕ
+takeRoom (some f) reply room = room
+takeRoom none reply room = over reply room
+
+-- a telegram is answered, or refused: what the call hands back, and what the lent room holds then
+abbrev pub Answers : Option Fault → Bench → Bench → List ℕ → List ℕ → AfterTake → List ℕ → Type 0
+Answers refusal bench after reply room r room′ =
+    (r .answer ≡ takeAnswer refusal reply) × (r .bench ≡ takeBench refusal bench after) × (room′ ≡ takeRoom refusal reply room)
+
+-- of a telegram that was read
+abbrev pub Requests : Bench → Fields → List ℕ → List ℕ → AfterTake → List ℕ → Type 0
+Requests bench t bytes room r room′ =
+    Answers (requestRefusal bench t bytes (length room)) bench (doneTo bench (t .register) (deedOf bench t bytes)) (replyOf bench t bytes) room r room′
+
+-- the contract of `take`
+abbrev pub Takes : Bench → List ℕ → List ℕ → AfterTake → List ℕ → Type 0
+Takes bench frame room r room′ =
+    Answers (takeRefusal bench frame (length room)) bench
+    (doneTo bench (fieldsOf (messageOf frame) .register) (deedOf bench (fieldsOf (messageOf frame)) (dataOf (messageOf frame))))
+    (replyOf bench (fieldsOf (messageOf frame)) (dataOf (messageOf frame))) room r room′

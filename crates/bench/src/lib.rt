@@ -1,0 +1,98 @@
+// A bench module to test against: one address, up to 32 registers, and the answers that the maker
+// describes. specs/ says what each call answers.
+mod build;
+mod held;
+mod request;
+
+pub use build::add;
+pub use build::make;
+pub use build::set;
+pub use held::look;
+pub use request::take;
+ghost use Rattle.bench.specs.Register.{Numbers};
+
+// A register that the bench holds. Rights are 1 read, 2 write, 4 bit writes, summed; the value is
+// the number that its bytes are, lowest first.
+pub struct Register {
+    pub number: u8,
+    pub kind: u8,
+    pub rights: u8,
+    pub value: u64,
+}
+
+// The first `count` registers are held.
+pub struct Bench {
+    pub address: u8,
+    pub count: u8,
+    pub registers: [Register; 32],
+}
+
+// Why the bench refused a call, or keeps silent.
+pub enum Fault {
+    // the telegram could not be read
+    Unread(telegram::Fault),
+    WrongKind,
+    WrongRights,
+    AlreadyThere,
+    Full,
+    NotAModule,
+    OtherAddress,
+    NotARequest,
+    NoRoom,
+    NotHeld,
+    DoesNotFit,
+}
+
+pub enum Building {
+    Done,
+    Refused(Fault),
+}
+
+pub enum Taking {
+    // how long the reply is
+    Answered(usize),
+    Silent(Fault),
+}
+
+pub enum Seen {
+    Held(Register),
+    NotHeld,
+}
+
+// What a request does: the type of the reply, how many bytes of the value it carries, and the
+// register's value afterwards.
+pub struct Deed {
+    pub sort: u8,
+    pub size: usize,
+    pub value: u64,
+}
+
+// A call's answer, with the bench as it is afterwards.
+pub struct AfterBuild {
+    pub bench: Bench,
+    pub answer: Building,
+}
+
+pub struct AfterTake {
+    pub bench: Bench,
+    pub answer: Taking,
+}
+
+// The paper's number of a refusal; of a telegram that could not be read, the reader's.
+pub fn number(fault: Fault) -> u8
+    ensures { λ r. ⌜ Numbers fault r ⌝ }
+{
+    match fault {
+        Fault::Unread(why) => telegram::number(why),
+        Fault::WrongKind => 30,
+        Fault::WrongRights => 31,
+        Fault::AlreadyThere => 32,
+        Fault::Full => 33,
+        Fault::NotAModule => 34,
+        Fault::OtherAddress => 35,
+        Fault::NotARequest => 36,
+        Fault::NoRoom => 37,
+        Fault::NotHeld => 38,
+        Fault::DoesNotFit => 43,
+    }
+}

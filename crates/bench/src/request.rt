@@ -1,0 +1,196 @@
+// A telegram for the bench: read, judged, done and answered.
+use crate::AfterTake;
+use crate::Bench;
+use crate::Deed;
+use crate::Fault;
+use crate::Register;
+use crate::Taking;
+use crate::held;
+use telegram::Fields;
+ghost use Rattle.bench.specs.Take.{Takes, Requests, Answers, nack, readDeed, writeDeed, heldDeed, deedOf, replyFor, replyOf, doneTo, isAnswer, roomRefusal};
+ghost use Rattle.bench.specs.Register.{hasRight};
+ghost use Rattle.bench.specs.declared.Taking.the-variants.{Silent};
+ghost use mathlib.Core.Path.{_≡_};
+ghost use mathlib.Core.Logic.{_≢_};
+ghost use Prim.Native.Nat.{_≤_, _<_};
+ghost use lib.ListN.{length};
+
+// Takes a telegram. The reply goes into the room's first bytes and the rest of the room stays;
+// where the bench keeps silent, the bench and all of the room stay.
+pub fn take(bench: Bench, frame: &[u8], room: &mut [u8]) -> AfterTake
+    ensures { λ r. ⌜ Takes bench (now (frame .entry)) (now (room .entry)) r (now (room .exit)) ⌝ }
+{
+    let mut space = [0u8; 240];
+    let reading = telegram::read(frame, &mut space);
+    let telegram::Reading::Telegram(t) = reading else {
+        return silent(bench, Fault::Unread(telegram::why(reading)));
+    };
+    let n = t.size;
+    request(bench, t, &space[0..n], room)
+}
+
+fn silent(bench: Bench, fault: Fault) -> AfterTake
+    ensures { λ r. ⌜ (r .answer ≡ Silent fault) × (r .bench ≡ bench) ⌝ }
+{
+    AfterTake {
+        bench,
+        answer: Taking::Silent(fault),
+    }
+}
+
+// Rows 35 to 37, of a telegram that was read.
+fn request(bench: Bench, t: Fields, bytes: &[u8], room: &mut [u8]) -> AfterTake
+    requires { ⌜ (t .destination ≢ 0) × (t .source ≢ 0) ⌝ }
+    ensures { λ r. ⌜ Requests bench t (now (bytes .entry)) (now (room .entry)) r (now (room .exit)) ⌝ }
+{
+    if t.destination != bench.address {
+        return silent(bench, Fault::OtherAddress);
+    }
+    if is_answer(t.sort) {
+        return silent(bench, Fault::NotARequest);
+    }
+    reply(bench, t, deed(bench, t, bytes), room)
+}
+
+// The types that modules send.
+fn is_answer(sort: u8) -> bool
+    ensures { λ r. ⌜ r ≡ isAnswer sort ⌝ }
+{
+    if sort == 0 {
+        return true;
+    }
+    if sort == 1 {
+        return true;
+    }
+    if sort == 2 {
+        return true;
+    }
+    if sort == 3 {
+        return true;
+    }
+    sort == 8
+}
+
+// Row 37: the reply is written where there is room for it, and only then is the deed done.
+fn reply(bench: Bench, t: Fields, deed: Deed, room: &mut [u8]) -> AfterTake
+    requires { ⌜ (t .source ≢ 0) × (bench .address ≢ 0) × (deed .sort ≤ 9) × (deed .size ≤ 8) ⌝ }
+    ensures { λ r. ⌜ Answers (roomRefusal (replyFor bench t deed) (length (now (room .entry)))) bench (doneTo bench (t .register) deed) (replyFor bench t deed) (now (room .entry)) r (now (room .exit)) ⌝ }
+{
+    let mut space = [0u8; 8];
+    let n = deed.size;
+    values::store(deed.value, n, &mut space);
+    match telegram::write(
+        t.source,
+        bench.address,
+        deed.sort,
+        t.register,
+        &space[0..n],
+        room,
+    ) {
+        telegram::Writing::Refused(_) => silent(bench, Fault::NoRoom),
+        telegram::Writing::Written(n) => AfterTake {
+            bench: done(bench, t.register, deed),
+            answer: Taking::Answered(n),
+        },
+    }
+}
+
+// The bench after a deed.
+fn done(bench: Bench, number: u8, deed: Deed) -> Bench
+    ensures { λ r. ⌜ r ≡ doneTo bench number deed ⌝ }
+{
+    let place = held::place_of(bench, number);
+    if place < held::held_count(bench) {
+        held::with_value(bench, place, deed.value)
+    } else {
+        bench
+    }
+}
+
+// What a request does.
+fn deed(bench: Bench, t: Fields, bytes: &[u8]) -> Deed
+    ensures { λ r. ⌜ r ≡ deedOf bench t (now (bytes .entry)) ⌝ }
+{
+    let place = held::place_of(bench, t.register);
+    if place < held::held_count(bench) {
+        held_deed(held::register_at(bench, place), t.sort, bytes)
+    } else {
+        refusal(0)
+    }
+}
+
+fn refusal(value: u64) -> Deed
+    ensures { λ r. ⌜ r ≡ nack value ⌝ }
+{
+    Deed {
+        sort: 0,
+        size: 0,
+        value,
+    }
+}
+
+// What a request does to a register that is held.
+fn held_deed(register: Register, sort: u8, bytes: &[u8]) -> Deed
+    ensures { λ r. ⌜ r ≡ heldDeed register sort (now (bytes .entry)) ⌝ }
+{
+    let n = bytes.len();
+    let v = register.value;
+    let mask = values::load(bytes);
+    if sort == 4 {
+        return read_deed(register, n);
+    }
+    if sort == 5 {
+        return write_deed(register, 2, n, mask);
+    }
+    if sort == 6 {
+        return write_deed(register, 4, n, values::set_bits(v, mask));
+    }
+    if sort == 7 {
+        return write_deed(register, 4, n, values::clear_bits(v, mask));
+    }
+    if sort == 9 {
+        return write_deed(register, 4, n, values::toggle_bits(v, mask));
+    }
+    refusal(v)
+}
+
+// A read with so many data bytes.
+fn read_deed(register: Register, n: usize) -> Deed
+    ensures { λ r. ⌜ r ≡ readDeed register n ⌝ }
+{
+    if has_right(register, 1) {
+        if n == 0 {
+            return Deed {
+                sort: 8,
+                size: values::size(register.kind),
+                value: register.value,
+            };
+        }
+    }
+    refusal(register.value)
+}
+
+// A write of any sort that needs this right, with so many data bytes, after which the register has
+// that value.
+fn write_deed(register: Register, right: u8, n: usize, value: u64) -> Deed
+    requires { ⌜ 0 < right ⌝ }
+    ensures { λ r. ⌜ r ≡ writeDeed register right n value ⌝ }
+{
+    if has_right(register, right) {
+        if n == values::size(register.kind) {
+            return Deed {
+                sort: 3,
+                size: 0,
+                value,
+            };
+        }
+    }
+    refusal(register.value)
+}
+
+fn has_right(register: Register, right: u8) -> bool
+    requires { ⌜ 0 < right ⌝ }
+    ensures { λ r. ⌜ r ≡ hasRight register right ⌝ }
+{
+    register.rights / right % 2 == 1
+}
