@@ -1,3 +1,4 @@
 pub mod Looking
 pub mod Events
 pub mod Laws
+pub mod Sample

@@ -1,7 +1,7 @@
+use borrow.Author.Needs.{needs}
 use Rattle.lines.proofs.Pieces.{ending-open, ending-closed}
 use Rattle.lines.proofs.Laws.{line-short}
 use Rattle.lines.specs.declared.Event.the-variants.{Open}
-use borrow.Author.Needs.{needs}
 use Rattle.lines.proofs.ending.Statement.{statement}
 use Rattle.lines.proofs.ending.Tie as tie
 

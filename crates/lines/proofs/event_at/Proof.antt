@@ -1,7 +1,7 @@
-use Rattle.lines.proofs.Pieces.{event-put, refused-put}
 use native.Mathlib.Omega.{arith}
-use Rattle.lines.specs.declared.Event.the-variants.{Read, Refused, Dropped, Open}
 use borrow.Author.Needs.{needs}
+use Rattle.lines.proofs.Pieces.{event-put, refused-put}
+use Rattle.lines.specs.declared.Event.the-variants.{Read, Refused, Dropped, Open}
 use Rattle.lines.proofs.event_at.Statement.{statement}
 use Rattle.lines.proofs.event_at.Tie as tie
 

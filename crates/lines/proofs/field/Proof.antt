@@ -1,6 +1,6 @@
-use Rattle.lines.proofs.Pieces.{field-fits, field-put}
 use native.Mathlib.Omega.{arith}
 use borrow.Author.Needs.{needs}
+use Rattle.lines.proofs.Pieces.{field-fits, field-put}
 use Rattle.lines.proofs.field.Statement.{statement}
 use Rattle.lines.proofs.field.Tie as tie
 

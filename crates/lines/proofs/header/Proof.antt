@@ -1,6 +1,6 @@
+use borrow.Author.Needs.{needs}
 use Rattle.lines.proofs.Pieces.{puts-writes}
 use Rattle.lines.specs.Lines.{headerText}
-use borrow.Author.Needs.{needs}
 use Rattle.lines.proofs.header.Statement.{statement}
 use Rattle.lines.proofs.header.Tie as tie
 

@@ -1,7 +1,7 @@
-use Rattle.lines.proofs.Pieces.{puts-then}
 use native.Mathlib.Omega.{arith}
-use Rattle.lines.specs.Lines.{field}
 use borrow.Author.Needs.{needs}
+use Rattle.lines.proofs.Pieces.{puts-then}
+use Rattle.lines.specs.Lines.{field}
 use Rattle.lines.proofs.labelled.Statement.{statement}
 use Rattle.lines.proofs.labelled.Tie as tie
 

@@ -1,8 +1,8 @@
-use Rattle.lines.proofs.Pieces.{puts-then, puts-writes}
 use mathlib.Core.List.{_++_}
-use Rattle.text.specs.Text.{ascii, newline}
-use Rattle.lines.specs.Lines.{labelled, eventText, lineText}
 use borrow.Author.Needs.{needs}
+use Rattle.text.specs.Text.{ascii, newline}
+use Rattle.lines.proofs.Pieces.{puts-then, puts-writes}
+use Rattle.lines.specs.Lines.{labelled, eventText, lineText}
 use Rattle.lines.proofs.line.Statement.{statement}
 use Rattle.lines.proofs.line.Tie as tie
 

@@ -1,7 +1,7 @@
-use Rattle.lines.proofs.Pieces.{puts-then, puts-writes}
 use mathlib.Core.List.{_++_}
-use Rattle.lines.specs.Lines.{headerText, longerText}
 use borrow.Author.Needs.{needs}
+use Rattle.lines.proofs.Pieces.{puts-then, puts-writes}
+use Rattle.lines.specs.Lines.{headerText, longerText}
 use Rattle.lines.proofs.too_long.Statement.{statement}
 use Rattle.lines.proofs.too_long.Tie as tie
 

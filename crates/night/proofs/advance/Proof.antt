@@ -1,8 +1,8 @@
 use native.Mathlib.Omega.{arith}
+use borrow.Author.Needs.{needs}
 use Rattle.lines.proofs.Laws.{writes-within}
 use Rattle.listing.proofs.Laws.{step-short}
 use Rattle.listing.specs.Step.{stepText}
-use borrow.Author.Needs.{needs}
 use Rattle.night.proofs.advance.Statement.{statement}
 use Rattle.night.proofs.advance.Tie as tie
 

@@ -1,7 +1,7 @@
 use native.Mathlib.Omega.{arith}
+use borrow.Author.Needs.{needs}
 use Rattle.lines.proofs.Laws.{writes-within, ending-short}
 use Rattle.listing.specs.Step.{endText}
-use borrow.Author.Needs.{needs}
 use Rattle.night.proofs.finish.Statement.{statement}
 use Rattle.night.proofs.finish.Tie as tie
 

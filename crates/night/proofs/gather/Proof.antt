@@ -1,12 +1,9 @@
+use mathlib.Core.Path.{_≡_}
 use Prim.Native.Nat.{_+_, _-_, _≤_}
-use mathlib.Core.Path.{_≡_, _∙_}
-use lib.ListN.{length}
 use borrow.Author.Needs.{needs}
+use lib.ListN.{length}
 use Rattle.night.proofs.gather.Statement.{statement}
 use Rattle.night.proofs.gather.Tie as tie
-use Rattle.night.proofs.gather.Reads as reads
-use Rattle.night.proofs.gather.Lts as lts
-use Rattle.night.proofs.more.Reads as more-reads
 
 abbrev Inv-loop : tie.InvT-loop
 Inv-loop capture₀ size₀ capture size = (length capture ≡ length capture₀) × (size ≤ length capture + 4096)

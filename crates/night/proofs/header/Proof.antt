@@ -1,7 +1,7 @@
 use native.Mathlib.Omega.{arith}
+use borrow.Author.Needs.{needs}
 use Rattle.lines.proofs.Laws.{writes-within, header-short}
 use Rattle.lines.specs.Lines.{headerText}
-use borrow.Author.Needs.{needs}
 use Rattle.night.proofs.header.Statement.{statement}
 use Rattle.night.proofs.header.Tie as tie
 

@@ -1,15 +1,8 @@
-use Prim.Native.Nat.{_+_, _-_, _≤_}
-use mathlib.Core.Path.{_≡_, _∙_}
-use lib.ListN.{length}
+use Prim.Native.Nat.{_-_, _≤_}
 use borrow.Author.Needs.{needs}
+use lib.ListN.{length}
 use Rattle.night.proofs.list.Statement.{statement}
 use Rattle.night.proofs.list.Tie as tie
-use Rattle.night.proofs.list.Reads as reads
-use Rattle.night.proofs.list.Lts as lts
-use Rattle.listing.proofs.start.Reads as start-reads
-use Rattle.night.proofs.advance.Reads as advance-reads
-use Rattle.night.proofs.finish.Reads as finish-reads
-use Rattle.night.proofs.header.Reads as header-reads
 
 abbrev Inv-loop : tie.InvT-loop
 Inv-loop capture scan₀ i₀ scan i = i ≤ length capture

@@ -1,8 +1,8 @@
-use native.Mathlib.Omega.{arith}
-use Rattle.lines.proofs.Laws.{writes-within, longer-short}
 use mathlib.Core.List.{_++_}
-use Rattle.lines.specs.Lines.{headerText, longerText}
+use native.Mathlib.Omega.{arith}
 use borrow.Author.Needs.{needs}
+use Rattle.lines.proofs.Laws.{writes-within, longer-short}
+use Rattle.lines.specs.Lines.{headerText, longerText}
 use Rattle.night.proofs.longer.Statement.{statement}
 use Rattle.night.proofs.longer.Tie as tie
 

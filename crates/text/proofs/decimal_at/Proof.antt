@@ -2,10 +2,6 @@ use borrow.Author.Needs.{needs}
 use Rattle.text.proofs.Laws.{spelt-laid}
 use Rattle.text.proofs.decimal_at.Statement.{statement}
 use Rattle.text.proofs.decimal_at.Tie as tie
-use Rattle.text.proofs.decimal_at.Reads as reads
-use Rattle.text.proofs.decimal_at.Lts as lts
-use Rattle.lent.proofs.lay_at.Reads as lay-at-reads
-use Rattle.text.proofs.spell.Reads as spell-reads
 
 slice-aggregate-spell : tie.Need-slice-aggregate-spell
 slice-aggregate-spell c = search needs

@@ -1,14 +1,10 @@
-use Prim.Native.Nat.{ℕ, _+_, _<_, _^_}
-use mathlib.Core.Path.{_≡_, refl, sym, ap, _∙_}
-use lib.ListN.{length, length-set}
+use mathlib.Core.Path.{_≡_, refl, _∙_}
+use Prim.Native.Nat.{_+_, _<_, _^_}
 use borrow.Author.Needs.{needs}
-use native.Mathlib.Omega.{arith}
+use lib.ListN.{length, length-set}
 use Rattle.text.proofs.Laws.{Spelt, spelt-none, spelt-more, spelt-last, rest-fits, more-left}
 use Rattle.text.proofs.spell.Statement.{statement}
 use Rattle.text.proofs.spell.Tie as tie
-use Rattle.text.proofs.spell.Reads as reads
-use Rattle.text.proofs.spell.Lts as lts
-use Rattle.text.proofs.digit.Reads as digit-reads
 
 abbrev Inv-loop : tie.InvT-loop
 Inv-loop n digits₀ i₀ rest₀ digits i rest = (i < 20) × (length digits ≡ length digits₀) × (rest < 10 ^ (i + 1)) × Spelt digits i rest n

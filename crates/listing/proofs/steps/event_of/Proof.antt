@@ -1,6 +1,6 @@
 use mathlib.Core.Path.{sym, ap}
-use Rattle.listing.specs.Events.{readEvent}
 use borrow.Author.Needs.{needs}
+use Rattle.listing.specs.Events.{readEvent}
 use Rattle.listing.proofs.steps.event_of.Statement.{statement}
 use Rattle.listing.proofs.steps.event_of.Tie as tie
 

@@ -1,6 +1,6 @@
 use mathlib.Core.Path.{refl}
-use Rattle.lent.specs.Lent.{over}
 use borrow.Author.Needs.{needs}
+use Rattle.lent.specs.Lent.{over}
 use Rattle.listing.proofs.steps.opening.Statement.{statement}
 use Rattle.listing.proofs.steps.opening.Tie as tie
 

@@ -1,10 +1,10 @@
 use mathlib.Core.Path.{ap, _∙_}
 use mathlib.Core.List.{List}
 use Prim.Native.Nat.{ℕ}
+use borrow.Author.Needs.{needs}
 use Rattle.telegram.specs.Read.{readFrame}
 use Rattle.listing.specs.Events.{readEvent}
 use Rattle.listing.proofs.Looking.{no-frame}
-use borrow.Author.Needs.{needs}
 use Rattle.listing.proofs.steps.read_here.Statement.{statement}
 use Rattle.listing.proofs.steps.read_here.Tie as tie
 

@@ -1,6 +1,6 @@
 use mathlib.Core.Path.{sym, _∙_}
-use Rattle.listing.proofs.Looking.{step-past, step-start, step-end, step-other}
 use borrow.Author.Needs.{needs}
+use Rattle.listing.proofs.Looking.{step-past, step-start, step-end, step-other}
 use Rattle.listing.proofs.steps.step.Statement.{statement}
 use Rattle.listing.proofs.steps.step.Tie as tie
 
