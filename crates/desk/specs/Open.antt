@@ -90,9 +90,6 @@ distanceOf desk = firstPlace (λ k. not (ticketAt desk (placeFrom (desk .turn) k
 unfoldable pub givenPlace : Desk → ℕ
 givenPlace desk = placeFrom (desk .turn) (distanceOf desk)
 
-unfoldable pub givenAddress : Desk → ℕ
-givenAddress desk = 161 + givenPlace desk
-
 -- "The request telegram is written with that address as source": the telegram of a ticket at a place
 abbrev pub requestAt : ℕ → Ticket → List ℕ → List ℕ
 requestAt place ticket bytes = telegramFor (ticket .unit) (161 + place) (ticket .sort) (ticket .register) bytes

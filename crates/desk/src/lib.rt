@@ -7,7 +7,7 @@ ghost use Rattle.desk.specs.Close.{Cancels, Expires, Withdraws, isDue, d
 ghost use Rattle.rows.specs.Rows.{firstOf};
 ghost use mathlib.Core.Path.{_≡_};
 ghost use mathlib.Core.Logic.{_≢_};
-ghost use Prim.Native.Nat.{_+_, _≤_, _<_};
+ghost use Prim.Native.Nat.{_≤_, _<_};
 ghost use lib.ListN.{length};
 
 // One request that waits for its reply. It is live while it is open; one that is not is all zeros.

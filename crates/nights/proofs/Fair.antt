@@ -1,16 +1,17 @@
 -- The turn is fair: an address comes back only after every other one was given or passed over.
 -- Assumes nothing.
-use mathlib.Core.Path.{_≡_, refl, _∙_, subst}
-use mathlib.Core.Bool.{Bool, true, false}
+use mathlib.Core.Path.{_≡_, refl, _∙_, subst, sym, ap}
+use mathlib.Core.Bool.{Bool, true, false, true≢false}
 use mathlib.Core.List.{List, [], _∷_, _++_}
 use mathlib.Core.Logic.{_≢_, _⊎_, inl, inr, ⊎-elim}
 use mathlib.Core.Option.{Option, some, none}
-use Prim.Native.Nat.{ℕ, _+_, _-_, _%_, _≤_, _<_}
+use Prim.Native.Nat.{ℕ, _+_, _-_, _%_, _≤_, _<_, zero, suc}
 use native.Mathlib.Omega.{arith}
 use native.Mathlib.Decide.{decLe}
 use borrow.Author.Tests.{eqb-true, eqb-false, not-false}
 use lib.Dec.{eqb}
-use lib.ListN.{length}
+use lib.ListN.{length, getD, set}
+use lib.Seq.{getD-set-other}
 use Rattle.desk.proofs.Ranking.{search-ended}
 use Rattle.desk.specs.Close.{cancelRefusal, duePlace, expireRefusal, closeDesk}
 use Rattle.desk.specs.Open.{placeFrom, distanceOf, givenPlace, openRefusal, newTicket, openDesk}
@@ -22,8 +23,10 @@ use Rattle.desk.specs.declared.Desk.{Desk}
 use Rattle.telegram.specs.declared.Fields.{Fields}
 use Rattle.desk.specs.declared.Fault.{Fault}
 use Rattle.desk.proofs.Laws.{fit-to-open}
+use Rattle.desk.specs.Ticket.{noTicket, ticketAt}
+use Rattle.lent.specs.Lent.{over}
 use Rattle.nights.specs.Night.{Call, after, afterAll}
-use Rattle.nights.specs.Round.{Gives, PassesOver, Met}
+use Rattle.nights.specs.Round.{Gives, PassesOver, Met, GivenIn}
 use Rattle.nights.specs.Night.{asks, brings, cancels, expires}
 
 -- a place within an opening's sweep is given or passed over
@@ -128,3 +131,53 @@ turn-fair desk first p g calls second again q hq other =
     let turn : after desk first .turn ≡ (p + 1 + 0) % 95 = o .0 .turn-after ∙ rw (← o .1) (omega arith) in
     subst (λ (place : ℕ). Met (after desk first) (calls ++ (second ∷ [])) place) (r .1)
     (sweep p hp calls second (after desk first) 0 ((q + 94 - p) % 95) turn (omega arith) (r .0) again)
+
+-- ---- so an address comes back only after every other one that was free has been given: "the lowest-free slip is excluded"
+
+emptied-free : (tickets : List Ticket) (i place : ℕ) → getD tickets place noTicket .live ≡ false → getD (set tickets i noTicket) place noTicket .live ≡ false
+emptied-free [] i place e = e
+emptied-free (t ∷ tickets) zero zero e = refl
+emptied-free (t ∷ tickets) zero (suc place) e = e
+emptied-free (t ∷ tickets) (suc i) zero e = e
+emptied-free (t ∷ tickets) (suc i) (suc place) e = emptied-free tickets i place e
+
+closing-free : (o : Option Fault) (desk : Desk) (address place : ℕ) → ticketAt desk place .live ≡ false → ticketAt (closeDesk o desk address) place .live ≡ false
+closing-free none desk address place e = emptied-free (desk .tickets) (address - 161) place e
+closing-free (some f) desk address place e = e
+
+booking-free : (o : Option Fault) (desk : Desk) (t : Fields) (place : ℕ) → ticketAt desk place .live ≡ false → ticketAt (bookDesk o desk t) place .live ≡ false
+booking-free none desk t place e = emptied-free (desk .tickets) (t .destination - 161) place e
+booking-free (some f) desk t place e = e
+
+-- a free place is given, or stays free
+given-or-free : (desk : Desk) (call : Call) (place : ℕ) → ticketAt desk place .live ≡ false → Gives desk call place ⊎ (ticketAt (after desk call) place .live ≡ false)
+unfolding Gives after
+given-or-free desk (asks job unit sort register bytes wait clock room) place free = go (openRefusal desk ticket bytes (length room)) refl (eqb place (givenPlace desk)) refl
+  where
+    ticket : Ticket
+    ticket = newTicket job unit sort register wait clock
+
+    go : (o : Option Fault) → openRefusal desk ticket bytes (length room) ≡ o → (t : Bool) → eqb place (givenPlace desk) ≡ t
+        → ((openRefusal desk ticket bytes (length room) ≡ none) × (place ≡ givenPlace desk))
+        ⊎ (ticketAt (openDesk (openRefusal desk ticket bytes (length room)) desk (givenPlace desk) ticket) place .live ≡ false)
+    go (some f) e t p = inr (rw e free)
+    go none e true p = inl (e, eqb-true place (givenPlace desk) p)
+    go none e false p =
+        inr (rw e (ap (λ (x : Ticket). x .live) (getD-set-other (desk .tickets) (givenPlace desk) place ticket noTicket (eqb-false place (givenPlace desk) p)) ∙ free))
+given-or-free desk (brings frame room) place free = inr (booking-free (replyRefusal desk frame (length room)) desk (fieldsOf (messageOf frame)) place free)
+given-or-free desk (cancels job address) place free = inr (closing-free (cancelRefusal desk job address) desk address place free)
+given-or-free desk (expires clock) place free = inr (closing-free (expireRefusal desk clock) desk (161 + duePlace desk clock) place free)
+
+free-given : (calls : List Call) (desk : Desk) (place : ℕ) → ticketAt desk place .live ≡ false → Met desk calls place → GivenIn desk calls place
+unfolding Met GivenIn PassesOver
+free-given [] desk place free met = met
+free-given (call ∷ calls) desk place free met =
+    ⊎-elim (⊎-elim (λ g. inl g) (λ over. absurd (true≢false (sym (over .2) ∙ free))))
+    (λ later. ⊎-elim (λ g. inl g) (λ still. inr (free-given calls (after desk call) place still later)) (given-or-free desk call place free)) met
+
+-- every other place that holds no ticket after the first opening is given before the second is over
+pub free-before-again : (desk : Desk) (first : Call) (p : ℕ) → Gives desk first p → (calls : List Call) (second : Call)
+    → Gives (afterAll (after desk first) calls) second p → (q : ℕ) → q < 95 → q ≢ p → ticketAt (after desk first) q .live ≡ false
+    → GivenIn (after desk first) (calls ++ (second ∷ [])) q
+free-before-again desk first p g calls second again q hq other free =
+    free-given (calls ++ (second ∷ [])) (after desk first) q free (turn-fair desk first p g calls second again q hq other)

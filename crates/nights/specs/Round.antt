@@ -30,3 +30,8 @@ PassesOver desk call place =
 unfoldable pub Met : Desk → List Call → ℕ → Type 0
 Met desk [] place = ⊥
 Met desk (c ∷ cs) place = (Gives desk c place ⊎ PassesOver desk c place) ⊎ Met (after desk c) cs place
+
+-- one of the calls gives the place
+unfoldable pub GivenIn : Desk → List Call → ℕ → Type 0
+GivenIn desk [] place = ⊥
+GivenIn desk (c ∷ cs) place = Gives desk c place ⊎ GivenIn (after desk c) cs place
