@@ -53,12 +53,12 @@ gives-value-once kind bytes element p q = p ∙ sym q
 
 -- ---- nothing is cut
 
--- a kind over a byte is no kind
-no-size : (kind : ℕ) → 255 < kind → sizeOf kind ≡ 0
+-- a kind over 7 is no kind, however great
+no-size : (kind : ℕ) → 7 < kind → sizeOf kind ≡ 0
 unfolding sizeOf
 no-size kind h = List·getD-eq-default sizes 0 {n = kind} (omega arith)
 
-pub unknown-kind : (kind : ℕ) (bytes : List ℕ) (element : ℕ) → 255 < kind → readValue kind bytes element ≡ vreadings.Refused vfaults.UnknownKind
+pub unknown-kind : (kind : ℕ) (bytes : List ℕ) (element : ℕ) → 7 < kind → readValue kind bytes element ≡ vreadings.Refused vfaults.UnknownKind
 unfolding readValue values.readRefusal
 unknown-kind kind bytes element h = rw (kind-unknown kind 0 (sym (no-size kind h)) refl)
 

@@ -1,6 +1,7 @@
 -- `kamzhor_read_value` is the value reader, told in numbers; a kind over a byte is no kind.
 -- Assumes nothing.
 use mathlib.Core.Path.{sym, ap, _∙_}
+use native.Mathlib.Omega.{arith}
 use borrow.Author.Needs.{needs}
 use Rattle.kamzhor.specs.Host.{valueGiven}
 use Rattle.kamzhor.proofs.Laws.{unknown-kind, read-small}
@@ -11,7 +12,7 @@ refused-requires : tie.Need-refused-requires
 refused-requires c κs = search needs
 
 returns : tie.Need-returns
-returns c = c .refused .ensures ∙ sym (ap valueGiven (unknown-kind _ _ _ (c .before .if1 .taken)))
+returns c = c .refused .ensures ∙ sym (ap valueGiven (unknown-kind _ _ _ (omega (arith, c .before .if1 .taken))))
 
 cast-read : tie.Need-cast-read
 cast-read c = search needs
