@@ -9,6 +9,7 @@ extern FILE *stderr;
 int printf(const char *format, ...) __attribute__((format(printf, 1, 2)));
 int fprintf(FILE *to, const char *format, ...) __attribute__((format(printf, 2, 3)));
 size_t fread(void *to, size_t size, size_t n, FILE *from);
+size_t fwrite(const void *from, size_t size, size_t n, FILE *to);
 int ferror(FILE *f);
 int fflush(FILE *f);
 #endif
