@@ -1,5 +1,5 @@
 /* bench: the library's remainder and frame reader against straight.c, over the same captures, in the same program. Each
- * round times both, one after the other; the medians are printed as ns for each byte, and their ratio.
+ * round times both, one after the other; a line has the input, the call, the bytes, and the two medians as ns for each byte.
  * bench N: writes capture N to standard output. */
 #include "kamzhor.h"
 #include "straight.h"
@@ -8,7 +8,7 @@
 #include <time.h>
 
 #define LENGTH 65536
-#define ROUNDS 101
+#define ROUNDS 41
 
 static uint8_t bytes[LENGTH], room[240];
 static size_t from[LENGTH / 2], size[LENGTH / 2], many;
@@ -70,10 +70,6 @@ static int compare(const char *capture_name, const char *what, uint64_t (*ours)(
     static double a[ROUNDS], b[ROUNDS];
     int i;
     double x, y;
-    if (over == 0) {
-        printf("%-6s %-12s nothing to read\n", capture_name, what);
-        return 0;
-    }
     room[0] = 0;
     sink = ours();
     room[0] = 0;
@@ -101,7 +97,7 @@ static int compare(const char *capture_name, const char *what, uint64_t (*ours)(
     }
     x = median(a) / (double)over;
     y = median(b) / (double)over;
-    printf("%-6s %-12s %6lu %10.2f %10.2f %8.2f\n", capture_name, what, (unsigned long)over, x, y, x / y);
+    printf("%s %s %lu %.3f %.3f\n", capture_name, what, (unsigned long)over, x, y);
     return 0;
 }
 
@@ -133,13 +129,12 @@ int main(int count, char **words)
         capture(words[1][0] - '0', bytes, LENGTH);
         return fwrite(bytes, 1, LENGTH, stdout) != LENGTH;
     }
-    printf("%-6s %-12s %6s %10s %10s %8s   (medians of %d rounds)\n", "input", "call", "bytes", "proved", "plain C", "ratio", ROUNDS);
     for (i = 0; i < 3; i++) {
         size_t framed;
         capture(i, bytes, LENGTH);
         framed = find_frames();
         failed |= compare(names[i], "remainder", remainder_ours, remainder_theirs, LENGTH);
-        failed |= compare(names[i], "frame reader", frames_ours, frames_theirs, framed);
+        failed |= compare(names[i], "frames", frames_ours, frames_theirs, framed);
     }
     return failed;
 }

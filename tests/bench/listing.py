@@ -1,6 +1,5 @@
 """listing.py OURS THEIRS CAPTURE..: runs two programs, each by tools/launch, on each capture, compares what they write,
-and prints the medians of whole runs as ns for each byte. Starting the program is part of it, so a run on no bytes is
-printed too."""
+and prints the medians of whole runs, less the median of a run on no bytes, as ns for each byte."""
 import statistics
 import subprocess
 import sys
@@ -15,17 +14,17 @@ def run(program, capture):
     return time.perf_counter_ns() - start, done.stdout
 
 
-ours, theirs, *files = sys.argv[1:]
-captures = [("none", b"")] + [(f.rsplit("/", 1)[-1], open(f, "rb").read()) for f in files]
-for name, capture in captures:
+def medians(name, capture):
     if run(ours, capture)[1] != run(theirs, capture)[1]:
         sys.exit(f"bench: FAILED, the two listings of {name} differ")
-    a, b = [], []
-    for _ in range(ROUNDS):
-        a.append(run(ours, capture)[0])
-        b.append(run(theirs, capture)[0])
-    x, y = statistics.median(a), statistics.median(b)
-    if capture:
-        print(f"{name:6} {'listing':12} {len(capture):6} {x / len(capture):10.2f} {y / len(capture):10.2f} {x / y:8.2f}")
-    else:
-        print(f"{name:6} {'start alone':12} {'':6} {x:10.0f} {y:10.0f} {x / y:8.2f}   (ns for a run)")
+    times = [(run(ours, capture)[0], run(theirs, capture)[0]) for _ in range(ROUNDS)]
+    return [statistics.median(t) for t in zip(*times)]
+
+
+ours, theirs, *files = sys.argv[1:]
+start = medians("nothing", b"")
+print(f"start alone: proved {start[0]:.0f} ns, plain C {start[1]:.0f} ns")
+for path in files:
+    capture = open(path, "rb").read()
+    x, y = (max(t - s, 1) / len(capture) for t, s in zip(medians(path, capture), start))
+    print(f"{path.rsplit('/', 1)[-1]:6} listing, less the start: proved {x:.2f}, plain C {y:.2f}, ratio {x / y:.2f}")
