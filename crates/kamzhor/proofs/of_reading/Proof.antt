@@ -1,0 +1,30 @@
+-- `of_reading` tells a reading in numbers.
+-- Assumes nothing.
+use mathlib.Core.Path.{sym, ap, _∙_}
+use borrow.Author.Needs.{needs}
+use Rattle.kamzhor.specs.Host.{frameNumber, frameGiven}
+use Rattle.kamzhor.proofs.of_reading.Statement.{statement}
+use Rattle.kamzhor.proofs.of_reading.Tie as tie
+
+enum-known-reading : tie.Need-enum-known-reading
+enum-known-reading c = search needs
+
+number-requires : tie.Need-number-requires
+number-requires c κs = search needs
+
+cast-t6 : tie.Need-cast-t6
+cast-t6 c = search needs
+
+enum-known-reading-2 : tie.Need-enum-known-reading-2
+enum-known-reading-2 c = search needs
+
+returns : tie.Need-returns
+returns c = ap frameNumber (c .number .ensures) ∙ sym (ap frameGiven (c .before .before .reading .given .1))
+
+returns-2 : tie.Need-returns-2
+returns-2 c = sym (ap frameGiven (c .before .reading2 .given .1))
+
+pub of-reading-spec : {M : Type 1} → statement M
+of-reading-spec =
+    tie.close
+    (tie.spec enum-known-reading number-requires cast-t6 enum-known-reading-2 returns returns-2)

@@ -1,0 +1,452 @@
+/* Calls the library as a C host does and compares every answer and every lent byte with plain.c: the papers' vectors,
+ * then a seeded set of frames and values, right and damaged. Each lent buffer ends right before a page that can be neither
+ * read nor written, or begins right behind one; the bytes on its other side are canaries. */
+#include "kamzhor.h"
+#include "plain.h"
+#include <stdio.h>
+#include <stdlib.h>
+#include <string.h>
+#include <sys/mman.h>
+#include <unistd.h>
+
+#ifndef ROUNDS
+#define ROUNDS 100000
+#endif
+#define CANARIES 64
+#define CANARY 0xC5
+
+/* the layout that the library has: no padding anywhere */
+typedef char frame_is_24_bytes[sizeof(struct kamzhor_frame) == 24 ? 1 : -1];
+typedef char value_is_16_bytes[sizeof(struct kamzhor_value) == 16 ? 1 : -1];
+
+static const char *doing = "";
+static unsigned long seen[64], calls;
+
+static void fail(const char *what)
+{
+    printf("host: FAILED %s: %s (call %lu)\n", doing, what, calls);
+    fflush(stdout);
+    exit(1);
+}
+
+static uint64_t state = 0x9E3779B97F4A7C15u;
+
+static uint64_t random64(void)
+{
+    state ^= state >> 12;
+    state ^= state << 25;
+    state ^= state >> 27;
+    return state * 0x2545F4914F6CDD1Du;
+}
+
+static size_t below(size_t n)
+{
+    return (size_t)(random64() >> 20) % n;
+}
+
+/* ---- lent memory */
+
+struct ground {
+    uint8_t *from, *to; /* what may be touched; a closed page stands on either side */
+};
+
+static struct ground frames, rooms;
+
+static struct ground ground(void)
+{
+    struct ground g;
+    size_t page = (size_t)sysconf(_SC_PAGESIZE), pages = 4 * PLAIN_LONGEST / page + 1;
+    uint8_t *all = (uint8_t *)mmap(NULL, (pages + 2) * page, PROT_READ | PROT_WRITE, MAP_PRIVATE | MAP_ANONYMOUS, -1, 0);
+    if ((void *)all == MAP_FAILED || mprotect(all, page, PROT_NONE) || mprotect(all + (pages + 1) * page, page, PROT_NONE)) {
+        printf("host: FAILED, no memory with closed pages\n");
+        exit(1);
+    }
+    g.from = all + page;
+    g.to = all + (pages + 1) * page;
+    return g;
+}
+
+/* n bytes at the end of the ground or at its beginning, with canaries on the side that is open */
+static uint8_t *lend(struct ground g, size_t n, int at_end)
+{
+    uint8_t *lent = at_end ? g.to - n : g.from;
+    memset(at_end ? lent - CANARIES : lent + n, CANARY, CANARIES);
+    return lent;
+}
+
+static void unharmed(const uint8_t *lent, size_t n, int at_end)
+{
+    const uint8_t *side = at_end ? lent - CANARIES : lent + n;
+    size_t i;
+    for (i = 0; i < CANARIES; i++)
+        if (side[i] != CANARY)
+            fail("a byte beside a lent buffer changed");
+}
+
+/* ---- one call, compared */
+
+static void remainder_of(const uint8_t *bytes, size_t n)
+{
+    int at_end;
+    unsigned want = plain_remainder(bytes, n);
+    calls++;
+    for (at_end = 0; at_end < 2; at_end++) {
+        uint8_t *lent = lend(frames, n, at_end);
+        if (n)
+            memcpy(lent, bytes, n);
+        if (kamzhor_remainder(lent, n) != want)
+            fail("the remainder differs");
+        if (n && memcmp(lent, bytes, n))
+            fail("the bytes changed");
+        unharmed(lent, n, at_end);
+    }
+    if (n == 0 && kamzhor_remainder(NULL, 0) != 0)
+        fail("the remainder of nothing is not 0");
+}
+
+static void same_frame(struct kamzhor_frame a, const struct plain_frame *b)
+{
+    if (a.refusal != b->refusal)
+        fail("the frame's number differs");
+    if (a.destination != b->destination || a.source != b->source || a.type != b->type || a.reg != b->reg || a.size != b->size)
+        fail("a field of the frame differs");
+    if (a.place != 0)
+        fail("the place is not 0");
+}
+
+static unsigned frame_of(const uint8_t *frame, size_t n, size_t room_length)
+{
+    static struct plain_frame want;
+    static uint8_t before[PLAIN_LONGEST];
+    int at_end;
+    size_t i;
+    plain_read_frame(frame, n, room_length, &want);
+    calls++;
+    seen[want.refusal]++;
+    for (i = 0; i < room_length; i++)
+        before[i] = (uint8_t)(0xA1 + i % 91);
+    for (at_end = 0; at_end < 2; at_end++) {
+        uint8_t *lent = lend(frames, n, at_end);
+        uint8_t *room = lend(rooms, room_length, at_end);
+        if (n)
+            memcpy(lent, frame, n);
+        if (room_length)
+            memcpy(room, before, room_length);
+        same_frame(kamzhor_read_frame(lent, n, room, room_length), &want);
+        if (memcmp(room, want.data, want.size) || memcmp(room + want.size, before + want.size, room_length - want.size))
+            fail("the room differs");
+        if (n && memcmp(lent, frame, n))
+            fail("the frame changed");
+        unharmed(lent, n, at_end);
+        unharmed(room, room_length, at_end);
+        if (room_length == 0)
+            same_frame(kamzhor_read_frame(lent, n, NULL, 0), &want);
+        if (n == 0)
+            same_frame(kamzhor_read_frame(NULL, 0, room, room_length), &want);
+        if (n == 0 && room_length == 0)
+            same_frame(kamzhor_read_frame(NULL, 0, NULL, 0), &want);
+    }
+    return want.refusal;
+}
+
+static void same_value(struct kamzhor_value a, struct plain_value b)
+{
+    if (a.refusal != b.refusal)
+        fail("the value's number differs");
+    if (a.negative != b.negative || a.magnitude != b.magnitude)
+        fail("the value differs");
+}
+
+static unsigned value_of(uint64_t kind, const uint8_t *bytes, size_t n, uint64_t element)
+{
+    int at_end;
+    struct plain_value want = plain_read_value(kind, bytes, n, element);
+    calls++;
+    seen[want.refusal]++;
+    for (at_end = 0; at_end < 2; at_end++) {
+        uint8_t *lent = lend(frames, n, at_end);
+        if (n)
+            memcpy(lent, bytes, n);
+        same_value(kamzhor_read_value(kind, lent, n, element), want);
+        if (n && memcmp(lent, bytes, n))
+            fail("the bytes changed");
+        unharmed(lent, n, at_end);
+        if (n == 0)
+            same_value(kamzhor_read_value(kind, NULL, 0, element), want);
+    }
+    return want.refusal;
+}
+
+/* ---- the papers' vectors: what they must give is written out, and not left to plain.c */
+
+struct told_remainder {
+    size_t n;
+    uint8_t bytes[8];
+    unsigned gives;
+};
+
+static const struct told_remainder remainders[] = {
+    {4, {0x0F, 0xA2, 0x04, 0x66}, 0xC7B6},
+    {5, {0x0F, 0xA2, 0x05, 0x30, 0x03}, 0xBCE1},
+    {6, {0x0A, 0xA2, 0x05, 0x23, 0x88, 0x13}, 0x3B55},
+    {6, {0xA2, 0x0A, 0x08, 0x11, 0x5E, 0x91}, 0x637E},
+    {0, {0}, 0},
+    {6, {0x0F, 0xA2, 0x04, 0x66, 0xC7, 0xB6}, 0},
+};
+
+struct told_frame {
+    size_t n;
+    uint8_t bytes[16];
+    unsigned refusal, destination, source, type, reg, size;
+    uint8_t data[4];
+};
+
+static const struct told_frame told_frames[] = {
+    {8, {13, 0x0F, 0xA2, 0x04, 0x66, 0xC7, 0xB6, 10}, 0, 15, 162, 4, 102, 0, {0}},
+    {9, {13, 0x0F, 0xA2, 0x05, 0x30, 0x03, 0xBC, 0xE1, 10}, 0, 15, 162, 5, 48, 1, {3}},
+    {8, {13, 0xA2, 0x0F, 0x03, 0x30, 0x48, 0x2F, 10}, 0, 162, 15, 3, 48, 0, {0}},
+    {11, {13, 0x5E, 0x4A, 0xA2, 0x05, 0x23, 0x88, 0x13, 0x3B, 0x55, 10}, 0, 10, 162, 5, 35, 2, {0x88, 0x13}},
+    {9, {13, 0xA2, 0x5E, 0x4A, 0x03, 0x23, 0x81, 0x8D, 10}, 0, 162, 10, 3, 35, 0, {0}},
+    {9, {13, 0x5E, 0x4A, 0xA2, 0x04, 0x11, 0x75, 0x83, 10}, 0, 10, 162, 4, 17, 0, {0}},
+    {11, {13, 0xA2, 0x5E, 0x4A, 0x08, 0x11, 0x5E, 0x91, 0x63, 0x7E, 10}, 3, 0, 0, 0, 0, 0, {0}},
+    {12, {13, 0xA2, 0x5E, 0x4A, 0x08, 0x11, 0x5E, 0x9E, 0x91, 0x63, 0x7E, 10}, 0, 162, 10, 8, 17, 2, {0x5E, 0x91}},
+    {11, {13, 0x5E, 0x4A, 0x42, 0x05, 0x32, 0x5E, 0x4D, 0x9C, 0xF0, 10}, 0, 10, 66, 5, 50, 1, {13}}, /* T5 */
+    {2, {13, 10}, 4, 0, 0, 0, 0, 0, {0}},                                                             /* T6 */
+    {4, {13, 0x5E, 0x41, 10}, 3, 0, 0, 0, 0, 0, {0}},                                                 /* T7 */
+    {8, {13, 0x0F, 0xA2, 0x04, 0x66, 0xC7, 0xB7, 10}, 7, 0, 0, 0, 0, 0, {0}},                         /* T8 */
+    {0, {0}, 1, 0, 0, 0, 0, 0, {0}},
+    {1, {13}, 1, 0, 0, 0, 0, 0, {0}},
+    {3, {13, 13, 10}, 2, 0, 0, 0, 0, 0, {0}},
+    {3, {13, 94, 10}, 3, 0, 0, 0, 0, 0, {0}},
+};
+
+struct told_value {
+    uint64_t kind, element;
+    size_t n;
+    uint8_t bytes[8];
+    unsigned refusal, negative;
+    uint64_t magnitude;
+};
+
+static const struct told_value told_values[] = {
+    {KAMZHOR_I16, 0, 2, {0x00, 0x80}, 0, 1, 32768}, /* T9 */
+    {KAMZHOR_U16, 0, 2, {0x5E, 0x91}, 0, 0, 37214}, /* T10 */
+    {KAMZHOR_U8, 1, 2, {0, 255}, 0, 0, 255},
+    {KAMZHOR_I8, 0, 1, {255}, 0, 1, 1},
+    {KAMZHOR_I8, 0, 1, {128}, 0, 1, 128},
+    {KAMZHOR_I16, 0, 2, {0xFF, 0x7F}, 0, 0, 32767},
+    {KAMZHOR_U32, 0, 4, {0xFF, 0xFF, 0xFF, 0xFF}, 0, 0, 4294967295u},
+    {KAMZHOR_I32, 0, 4, {0, 0, 0, 0x80}, 0, 1, 2147483648u},
+    {KAMZHOR_I32, 1, 8, {0, 0, 0, 0, 0xFE, 0xFF, 0xFF, 0xFF}, 0, 1, 2},
+    {KAMZHOR_U64, 0, 8, {0xFF, 0xFF, 0xFF, 0xFF, 0xFF, 0xFF, 0xFF, 0xFF}, 0, 0, UINT64_MAX},
+    {0, 0, 1, {7}, 40, 0, 0},
+    {8, 0, 1, {7}, 40, 0, 0},
+    {256, 0, 1, {7}, 40, 0, 0},
+    {257, 0, 1, {7}, 40, 0, 0},
+    {(uint64_t)1 << 32 | 1, 0, 1, {7}, 40, 0, 0},
+    {UINT64_MAX, 0, 0, {0}, 40, 0, 0},
+    {KAMZHOR_U8, 0, 0, {0}, 41, 0, 0},
+    {KAMZHOR_U32, 0, 6, {0}, 41, 0, 0},
+    {KAMZHOR_U8, 1, 1, {7}, 42, 0, 0},
+    {KAMZHOR_U8, 256, 1, {7}, 42, 0, 0},
+    {KAMZHOR_U8, (uint64_t)1 << 32, 1, {7}, 42, 0, 0},
+    {KAMZHOR_U64, (uint64_t)1 << 61, 8, {7}, 42, 0, 0},
+    {KAMZHOR_U8, (uint64_t)1 << 63, 1, {7}, 42, 0, 0},
+    {KAMZHOR_U64, UINT64_MAX, 8, {7}, 42, 0, 0},
+};
+
+static void vectors(void)
+{
+    size_t i;
+    doing = "vectors";
+    for (i = 0; i < sizeof remainders / sizeof *remainders; i++) {
+        const struct told_remainder *t = &remainders[i];
+        remainder_of(t->bytes, t->n);
+        if (kamzhor_remainder(t->bytes, t->n) != t->gives)
+            fail("a remainder is not the paper's");
+    }
+    for (i = 0; i < sizeof told_frames / sizeof *told_frames; i++) {
+        const struct told_frame *t = &told_frames[i];
+        uint8_t room[4] = {0xA1, 0xA2, 0xA3, 0xA4}, after[4] = {0xA1, 0xA2, 0xA3, 0xA4};
+        struct kamzhor_frame a = kamzhor_read_frame(t->bytes, t->n, room, sizeof room);
+        if (a.refusal != t->refusal || a.destination != t->destination || a.source != t->source || a.type != t->type || a.reg != t->reg
+            || a.size != t->size || a.place != 0)
+            fail("a frame is not read as the paper says");
+        memcpy(after, t->data, t->size);
+        if (memcmp(room, after, sizeof room))
+            fail("a room is not filled as the paper says");
+        frame_of(t->bytes, t->n, 0);
+        frame_of(t->bytes, t->n, 1);
+        frame_of(t->bytes, t->n, 240);
+    }
+    for (i = 0; i < sizeof told_values / sizeof *told_values; i++) {
+        const struct told_value *t = &told_values[i];
+        struct kamzhor_value v = kamzhor_read_value(t->kind, t->bytes, t->n, t->element);
+        if (v.refusal != t->refusal || v.negative != t->negative || v.magnitude != t->magnitude)
+            fail("a value is not the paper's");
+        value_of(t->kind, t->bytes, t->n, t->element);
+    }
+}
+
+/* both sides of 240 data bytes, with rooms of the data's length, one less and one more */
+static void limits(void)
+{
+    static uint8_t message[260], frame[600];
+    size_t data, room, i, n;
+    doing = "limits";
+    for (data = 238; data < 243; data++)
+        for (room = data - 1; room < data + 2; room++) {
+            unsigned rest;
+            message[0] = 15;
+            message[1] = 162;
+            message[2] = 5;
+            message[3] = 48;
+            for (i = 0; i < data; i++)
+                message[4 + i] = (uint8_t)(i * 7 + 3);
+            rest = plain_remainder(message, 4 + data);
+            message[4 + data] = (uint8_t)(rest / 256);
+            message[5 + data] = (uint8_t)(rest % 256);
+            n = plain_framed(message, 6 + data, frame);
+            if (frame_of(frame, n, room) != (data > 240 ? 5u : room < data ? 6u : 0u))
+                fail("a limit is in another place");
+        }
+}
+
+/* ---- the seeded set */
+
+/* bytes that matter to the reader come often */
+static uint8_t some_byte(void)
+{
+    static const uint8_t special[] = {10, 13, 94, 74, 77, 158, 0, 64};
+    return below(4) ? (uint8_t)random64() : special[below(sizeof special)];
+}
+
+static size_t some_data(void)
+{
+    switch (below(8)) {
+    case 0:
+        return 236 + below(10);
+    case 1:
+        return below(241);
+    case 2:
+        return 0;
+    default:
+        return below(12);
+    }
+}
+
+static size_t some_frame(uint8_t *frame, size_t *data)
+{
+    static uint8_t message[512];
+    size_t n, i, m;
+    unsigned rest;
+    *data = some_data();
+    if (below(12) == 0) { /* noise, often between the two ends */
+        n = below(40);
+        for (i = 0; i < n; i++)
+            frame[i] = some_byte();
+        if (n > 1 && below(4)) {
+            frame[0] = 13;
+            frame[n - 1] = 10;
+        }
+        return n;
+    }
+    message[0] = (uint8_t)(below(12) ? 1 + below(255) : 0);
+    message[1] = (uint8_t)(below(12) ? 1 + below(255) : 0);
+    message[2] = (uint8_t)(below(10) ? below(10) : below(256));
+    message[3] = some_byte();
+    for (i = 0; i < *data; i++)
+        message[4 + i] = some_byte();
+    m = 4 + *data;
+    rest = plain_remainder(message, m);
+    message[m++] = (uint8_t)(rest / 256);
+    message[m++] = (uint8_t)(rest % 256);
+    if (below(10) == 0)
+        message[below(m)] ^= (uint8_t)(1u << below(8));
+    if (below(24) == 0)
+        m = below(7);
+    n = plain_framed(message, m, frame);
+    switch (below(12)) { /* damage on the line */
+    case 0:
+        frame[below(n)] = some_byte();
+        break;
+    case 1:
+        i = below(n);
+        memmove(frame + i, frame + i + 1, n - i - 1);
+        n--;
+        break;
+    case 2:
+        i = below(n);
+        memmove(frame + i + 1, frame + i, n - i);
+        frame[i] = some_byte();
+        n++;
+        break;
+    case 3:
+        n = below(n + 1);
+        break;
+    default:
+        break;
+    }
+    return n;
+}
+
+static void seeded(void)
+{
+    static uint8_t frame[PLAIN_LONGEST], bytes[64];
+    size_t round, data, n, i;
+    doing = "seeded frames";
+    for (round = 0; round < ROUNDS; round++) {
+        size_t room;
+        n = some_frame(frame, &data);
+        switch (below(6)) {
+        case 0:
+            room = 0;
+            break;
+        case 1:
+            room = data ? data - 1 : 0;
+            break;
+        case 2:
+            room = data;
+            break;
+        case 3:
+            room = data + below(20);
+            break;
+        default:
+            room = 240 + below(60);
+        }
+        frame_of(frame, n, room);
+        if (round % 4 == 0)
+            remainder_of(frame, n);
+    }
+    doing = "seeded values";
+    for (round = 0; round < ROUNDS; round++) {
+        uint64_t kind = below(10), element = below(10);
+        if (below(16) == 0)
+            kind = random64() >> below(64);
+        if (below(16) == 0)
+            element = random64() >> below(64);
+        n = below(3) ? below(5) * 8 : below(sizeof bytes);
+        for (i = 0; i < n; i++)
+            bytes[i] = some_byte();
+        value_of(kind, bytes, n, element);
+    }
+}
+
+int main(void)
+{
+    static const unsigned wanted[] = {0, 1, 2, 3, 4, 5, 6, 7, 8, 9, 40, 41, 42};
+    size_t i;
+    frames = ground();
+    rooms = ground();
+    vectors();
+    limits();
+    seeded();
+    doing = "count";
+    for (i = 0; i < sizeof wanted / sizeof *wanted; i++) {
+        printf("host: number %u given %lu times\n", wanted[i], seen[wanted[i]]);
+        if (seen[wanted[i]] < ROUNDS / 1000)
+            fail("too few of one number");
+    }
+    printf("host: %lu calls compared, each with closed pages behind and before\n", calls);
+    return 0;
+}
