@@ -24,7 +24,7 @@ use Rattle.telegram.proofs.Ranking.{read-ranked}
 use Rattle.values.proofs.Bytes.{length-bytesOf}
 use Rattle.values.specs.Values.{bytesOf}
 use Rattle.telegram.specs.declared.Fields.{Fields}
-use Rattle.values.proofs.Table.{at}
+use Rattle.lent.specs.Lent.{over}
 use Rattle.bench.proofs.Deeds.{Small, deed-small}
 use Rattle.bench.specs.Take.{deedOf, replyFor, replyOf, isAnswer, requestRefusal, roomRefusal, takeRefusal, doneTo, Answers, Requests, Takes}
 use Rattle.bench.specs.declared.Fault.the-variants.{NoRoom, Unread, OtherAddress, NotARequest}
@@ -85,6 +85,10 @@ module _ (bench : Bench) (t : Fields) (deed : Deed) (hs : t .source ≢ 0) (ha :
       go true a e = clash (cc)
       go false a e = (g .0 ∙ (cc), g .1, e)
 
+  -- what the contract's room says is what the writer's says
+  pub wrote-so : length reply ≤ length room → room′ ≡ over reply room → Wrote (writing.Written (length reply))
+  wrote-so h e = rw (by-room, is-reply, le-ltb (length room) (length reply) h) (refl, e)
+
 -- ---- rows 35 to 37
 
 module _ (bench : Bench) (t : Fields) (bytes : List ℕ) (room : ℕ) where
@@ -116,13 +120,14 @@ reply-ready bench t bytes deed hd hs e d =
 
 -- ---- the whole call
 
+pub refused-up : (bench : Bench) (frame : List ℕ) (room : ℕ) (f : Unreadable) → readRefusal frame 240 ≡ some f → takeRefusal bench frame room ≡ some (Unread f)
+unfolding takeRefusal
+refused-up bench frame room f e = rw e
+
 pub not-read : (bench : Bench) (frame : List ℕ) (room : ℕ) (said : Reading) (f g : Unreadable) → said ≡ readFrame frame 240 → said ≡ reading.Refused f
     → g ≡ whyNot said → takeRefusal bench frame room ≡ some (Unread g)
-unfolding takeRefusal
 not-read bench frame room said f g is refused why =
-    let refusal : readRefusal frame 240 ≡ some f = reading-refused frame 240 f (sym is ∙ refused) in
-    let same : g ≡ f = why ∙ ap whyNot refused in
-    rw (refusal, same)
+    refused-up bench frame room f (reading-refused frame 240 f (sym is ∙ refused)) ∙ ap (λ (h : Unreadable). some (Unread h)) (sym (why ∙ ap whyNot refused))
 
 module _ (frame : List ℕ) (t : Fields) (read : readFrame frame 240 ≡ reading.Telegram t) where
   accepted : readRefusal frame 240 ≡ none

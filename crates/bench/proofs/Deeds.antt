@@ -12,7 +12,6 @@ use lib.ListN.{length, take}
 use lib.Seq.{take-all}
 use Rattle.values.proofs.Sized.{size-le}
 use Rattle.values.specs.Values.{sizeOf, natural, setBits, clearBits, toggleBits}
-use Rattle.values.proofs.Table.{at}
 use Rattle.telegram.specs.declared.Fields.{Fields}
 use Rattle.bench.specs.Register.{hasRight, registerAt, heldCount, placeOf, isHeld, withValue, Looks}
 use Rattle.bench.specs.Take.{nack, ack, readDeed, writeDeed, heldDeed, deedOf, doneTo, datagram}
@@ -101,7 +100,7 @@ module _ (register : Register) (sort : ℕ) (bytes : List ℕ) where
 
 -- ---- what the writer of the reply needs to know
 
-either : {A : Type 0} (P : A → Type 0) (b : Bool) (x y : A) → P x → P y → P (cond b x y)
+pub either : {A : Type 0} (P : A → Type 0) (b : Bool) (x y : A) → P x → P y → P (cond b x y)
 either P true x y p q = p
 either P false x y p q = q
 

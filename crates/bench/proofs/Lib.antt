@@ -2,3 +2,6 @@ pub mod Places
 pub mod Refusals
 pub mod Deeds
 pub mod Answering
+pub mod Laws
+pub mod Rules
+pub mod Kept

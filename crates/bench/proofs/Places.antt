@@ -7,7 +7,6 @@ use native.Mathlib.Omega.{arith}
 use borrow.Author.Tests.{lt-ltb, le-ltb, eq-eqb, ne-eqb}
 use lib.Dec.{eqb}
 use Rattle.first.proofs.Laws.{first-at, first-none}
-use Rattle.values.proofs.Table.{at}
 use Rattle.bench.specs.Register.{registerAt, heldCount, placeOf, isHeld}
 use Rattle.bench.specs.declared.Bench.{Bench}
 

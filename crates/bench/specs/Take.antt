@@ -3,7 +3,7 @@
 use mathlib.Core.Path.{_≡_}
 use mathlib.Core.Logic.{_≢_, _⊎_}
 use mathlib.Core.Bool.{Bool, cond, not, _||_, _&&_}
-use mathlib.Core.List.{List, [], _∷_}
+use mathlib.Core.List.{List, [], _∷_, _++_}
 use mathlib.Core.Option.{Option, some, none}
 use Prim.Native.Nat.{ℕ, _<_}
 use lib.Dec.{eqb, ltb}
@@ -11,7 +11,7 @@ use lib.ListN.{length}
 use Rattle.lent.specs.Lent.{over}
 use Rattle.rows.specs.Rows.{Row, row, Test, test, firstOf, orLater}
 use Rattle.frame.specs.Frame.{messageOf}
-use Rattle.telegram.specs.Read.{readRefusal, fieldsOf, dataOf}
+use Rattle.telegram.specs.Read.{readRows, readRefusal, fieldsOf, dataOf}
 use Rattle.telegram.specs.Write.{telegramFor}
 use Rattle.telegram.specs.declared.Fault.{Fault as Unreadable}
 use Rattle.telegram.specs.declared.Fields.{Fields}
@@ -86,6 +86,15 @@ unfoldable pub takeRows : Bench → Fields → List ℕ → ℕ → List (Row Fa
 takeRows bench t bytes room =
     row (IsOtherAddress bench t) OtherAddress ∷ row (IsNotARequest t) NotARequest ∷ row (IsNoRoom (replyOf bench t bytes) room) NoRoom ∷ []
 
+-- the reader's rows, passed up whole
+abbrev pub unreadRows : List (Row Unreadable) → List (Row Fault)
+unreadRows [] = []
+unreadRows (r ∷ rs) = row (r .holds) (Unread (r .gives)) ∷ unreadRows rs
+
+-- what means silence, in the call's order: "It reads with 240 bytes of room of its own", and then 35 to 37
+unfoldable pub silenceRows : Bench → List ℕ → ℕ → List (Row Fault)
+silenceRows bench frame room = unreadRows (readRows frame 240) ++ takeRows bench (fieldsOf (messageOf frame)) (dataOf (messageOf frame)) room
+
 abbrev pub isAnswer : ℕ → Bool
 isAnswer sort = eqb sort 0 || (eqb sort 1 || (eqb sort 2 || (eqb sort 3 || eqb sort 8)))
 
@@ -104,7 +113,7 @@ requestRefusal bench t bytes room = firstOf (takeTests bench t bytes room)
 abbrev pub roomRefusal : List ℕ → ℕ → Option Fault
 roomRefusal reply room = firstOf (test (ltb room (length reply)) NoRoom ∷ [])
 
--- the reader's refusal, passed up whole; "It reads with 240 bytes of room of its own"
+-- the reader's refusal, passed up whole
 abbrev pub unread : Option Unreadable → Option Fault
 unread (some f) = some (Unread f)
 unread none = none

@@ -140,7 +140,7 @@ all-tail : (xs : List ℕ) → AllBytes xs → AllBytes (drop 1 xs)
 all-tail [] p = tt
 all-tail (x ∷ xs) p = p .1
 
-all-at : (xs : List ℕ) (i : ℕ) → AllBytes xs → byte xs i < 256
+pub all-at : (xs : List ℕ) (i : ℕ) → AllBytes xs → byte xs i < 256
 all-at [] i p = omega arith
 all-at (x ∷ xs) zero p = p .0
 all-at (x ∷ xs) (suc i) p = all-at xs i (p .1)
@@ -158,7 +158,7 @@ all-restored after (x ∷ xs) p = all-append (restore after x) (restored (opens 
     one true = (omega (arith, p .0), tt)
     one false = plain (eqb x 94)
 
-all-message : (frame : List ℕ) → AllBytes frame → AllBytes (messageOf frame)
+pub all-message : (frame : List ℕ) → AllBytes frame → AllBytes (messageOf frame)
 unfolding messageOf between
 all-message frame p = all-restored false _ (all-take (length frame - 2) (drop 1 frame) (all-tail frame p))
 

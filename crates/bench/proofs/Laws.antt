@@ -1,0 +1,287 @@
+-- What is promised of the bench, each law under the sentence of the paper that it keeps. The rules of a request are in Rules.antt, what
+-- every call keeps in Kept.antt.
+-- Assumes nothing.
+use Rattle.telegram.specs.declared.Fault.{Fault as Unreadable}
+use Rattle.telegram.specs.declared.Fault.the-variants as unread
+use Rattle.telegram.specs.declared.Reading.the-variants.{Telegram}
+use Rattle.telegram.specs.Read.{readRows, readRefusal}
+use Rattle.telegram.proofs.Ranking.{read-ranked}
+use Rattle.remainder.specs.Remainder.{remainderOf, combined, AlteredNearby}
+use Rattle.remainder.proofs.Laws.{burst-seen, nearby-burst}
+use Rattle.bench.specs.Register.{Held, Numbers}
+use Rattle.bench.specs.Build.{Sets}
+use Rattle.bench.specs.declared.Seen.{Seen}
+use mathlib.Core.Path.{_≡_, refl, sym, ap, ap₂, _∙_}
+use mathlib.Core.Bool.{Bool, true, false, not, _&&_, true≢false}
+use mathlib.Core.List.{List, [], _∷_, _++_}
+use mathlib.Core.Logic.{_≢_, _⊎_, inl, inr, ⊎-elim, _↔_}
+use mathlib.Core.Option.{Option, some, none}
+use Prim.Native.Nat.{ℕ, _≤_}
+use native.Mathlib.Omega.{arith}
+use borrow.Author.Tests.{ltb-true, ltb-false, eqb-true, eqb-false}
+use lib.Dec.{eqb}
+use lib.ListN.{length}
+use Rattle.first.proofs.Laws.{Ended, ended}
+use Rattle.frame.specs.Frame.{framed, messageOf}
+use Rattle.remainder.proofs.Laws.{burst-seen, nearby-burst}
+use Rattle.remainder.specs.Remainder.{remainderOf, combined, AlteredNearby}
+use Rattle.rows.proofs.Laws.{Decides, decides-lt, decides-le, decides-eq, decides-not, decides-or, decides-as, ranked, refused-exactly, told-exactly, clash}
+use Rattle.rows.specs.Rows.{Row, First, NoRow, Ranked, orLater}
+use Rattle.telegram.proofs.Laws.{altered-refused}
+use Rattle.telegram.specs.Read.{OfMessage, IsLong, OverRoom, fieldsOf, dataOf, readFrame}
+use Rattle.values.proofs.Refusals.{decides-kind, decides-fits}
+use Rattle.values.specs.Values.{sizeOf, storedAt, NoKind, Unfit}
+use Rattle.telegram.specs.declared.Fields.{Fields}
+use Rattle.telegram.specs.declared.Reading.the-variants.{Telegram}
+use Rattle.values.specs.declared.Value.{Value}
+use Rattle.bench.proofs.Answering.{refused-up}
+use Rattle.bench.specs.Build.{buildAnswer, buildBench, IsNotAModule, makeRows, makeTests, makeRefusal, Makes, IsWrongKind, IsWrongRights, IsThere, IsFull, addRows, addTests, addRefusal, withRegister, Adds, IsNotHeld, IsUnfit, setRows, setTests, setRefusal, Sets}
+use Rattle.bench.specs.Register.{emptyBench, registerAt, heldCount, placeOf, isHeld, withValue, Numbers, Looks}
+use Rattle.bench.specs.Take.{replyOf, IsOtherAddress, IsNotARequest, IsNoRoom, takeRows, unreadRows, silenceRows, takeTests, requestRefusal, unread, takeRefusal, takeAnswer, takeBench, takeRoom, Takes}
+use Rattle.bench.specs.declared.Bench.{Bench}
+use Rattle.bench.specs.declared.Fault.{Fault}
+use Rattle.bench.specs.declared.Fault.the-variants.{Unread}
+use Rattle.bench.specs.declared.Building.{Building}
+use Rattle.bench.specs.declared.Building.the-variants.{Done, Refused}
+use Rattle.bench.specs.declared.Taking.{Taking}
+use Rattle.bench.specs.declared.Taking.the-variants.{Answered, Silent}
+use Rattle.bench.specs.declared.Seen.{Seen}
+use Rattle.bench.specs.declared.AfterBuild.{AfterBuild}
+use Rattle.bench.specs.declared.AfterTake.{AfterTake}
+
+-- ---- what decides a row
+
+pub decides-both : {a b : Bool} {P Q : Type 0} → Decides a P → Decides b Q → Decides (a && b) (P × Q)
+decides-both {a} {b} p q = go a b p q
+  where
+    go : (a b : Bool) {P Q : Type 0} → Decides a P → Decides b Q → Decides (a && b) (P × Q)
+    go true b p q = record { so = λ e. (p .so refl, q .so e); not-so = λ e h. q .not-so e (h .1) }
+    go false b p q = record { so = λ e. absurd (true≢false (sym e)); not-so = λ e h. p .not-so refl (h .0) }
+
+decides-one-not : {a b : Bool} {P Q : Type 0} → Decides a P → Decides b Q → Decides (not (a && b)) ((P → ⊥) ⊎ (Q → ⊥))
+decides-one-not {a} {b} p q = go a b p q
+  where
+    go : (a b : Bool) {P Q : Type 0} → Decides a P → Decides b Q → Decides (not (a && b)) ((P → ⊥) ⊎ (Q → ⊥))
+    go true b p q = decides-as (decides-not q) inr (λ s. ⊎-elim (λ n. absurd (n (p .so refl))) (λ n. n) s)
+    go false b p q = record { so = λ e. inl (p .not-so refl); not-so = λ e. absurd (true≢false e) }
+
+-- the search finds a register exactly where one is held
+pub decides-held : (bench : Bench) (number : ℕ) → Decides (isHeld bench number) (Held bench number)
+unfolding placeOf
+decides-held bench number = record { so = found; not-so = missed }
+  where
+    search-ended : Ended (λ place. eqb (registerAt bench place .number) number) (heldCount bench) (placeOf bench number)
+    search-ended = ended (λ place. eqb (registerAt bench place .number) number) (heldCount bench)
+
+    found : isHeld bench number ≡ true → Held bench number
+    found e = let l = ltb-true (placeOf bench number) (heldCount bench) e in (placeOf bench number, l, eqb-true _ _ (search-ended .there l))
+
+    missed : isHeld bench number ≡ false → Held bench number → ⊥
+    missed e h =
+        let past : heldCount bench ≤ placeOf bench number = ltb-false (placeOf bench number) (heldCount bench) e in
+        eqb-false _ _ (search-ended .before (h .0) (omega (arith, h .1))) (h .2)
+
+-- ---- "Each is given exactly when its condition holds and no earlier one does."
+
+-- 34
+pub make-ranked : (address : ℕ) → Ranked (makeRows address) (makeRefusal address)
+unfolding makeRows makeRefusal IsNotAModule
+make-ranked address =
+    ranked (makeTests address) (makeRows address) (decides-not (decides-both (decides-le 1 address) (decides-le address 160)), (refl, λ n₃₄. tt))
+
+-- 30 to 33
+pub add-ranked : (bench : Bench) (number kind rights : ℕ) → Ranked (addRows bench number kind rights) (addRefusal bench number kind rights)
+unfolding addRows addRefusal IsWrongKind IsWrongRights IsThere IsFull
+add-ranked bench number kind rights =
+    ranked (addTests bench number kind rights) (addRows bench number kind rights) (
+      decides-not (decides-kind kind),
+      (
+        refl,
+        λ n₃₀. (decides-lt 7 rights, (refl, λ n₃₁. (decides-held bench number, (refl, λ n₃₂. (decides-le 32 (bench .count), (refl, λ n₃₃. tt)))))),
+      ),
+    )
+
+-- 38, then 43
+pub set-ranked : (bench : Bench) (number : ℕ) (value : Value) → Ranked (setRows bench number value) (setRefusal bench number value)
+unfolding setRows setRefusal IsNotHeld IsUnfit NoKind Unfit
+set-ranked bench number value =
+    ranked (setTests bench number value) (setRows bench number value) (
+      decides-not (decides-held bench number),
+      (
+        refl,
+        λ n₃₈. (
+          decides-one-not (decides-kind (registerAt bench (placeOf bench number) .kind)) (decides-fits (registerAt bench (placeOf bench number) .kind) value),
+          (refl, λ n₄₃. tt),
+        ),
+      ),
+    )
+
+-- 35 to 37
+pub request-ranked : (bench : Bench) (t : Fields) (bytes : List ℕ) (room : ℕ) → Ranked (takeRows bench t bytes room) (requestRefusal bench t bytes room)
+unfolding takeRows requestRefusal IsOtherAddress IsNotARequest IsNoRoom
+request-ranked bench t bytes room =
+    ranked (takeTests bench t bytes room) (takeRows bench t bytes room) (
+      decides-not (decides-eq (t .destination) (bench .address)),
+      (
+        refl,
+        λ n₃₅. (
+          decides-or (decides-eq (t .sort) 0)
+              (decides-or (decides-eq (t .sort) 1)
+              (decides-or (decides-eq (t .sort) 2) (decides-or (decides-eq (t .sort) 3) (decides-eq (t .sort) 8)))),
+          (refl, λ n₃₆. (decides-lt room (length (replyOf bench t bytes)), (refl, λ n₃₇. tt))),
+        ),
+      ),
+    )
+
+-- the reader's rows passed up, and rows that come after others
+first-up : (rs : List (Row Unreadable)) (f : Unreadable) → First rs f → First (unreadRows rs) (Unread f)
+first-up [] f p = p
+first-up (r ∷ rs) f p = ⊎-elim (λ h. inl (h .0, ap Unread (h .1))) (λ h. inr (h .0, first-up rs f (h .1))) p
+
+none-up : (rs : List (Row Unreadable)) → NoRow rs → NoRow (unreadRows rs)
+none-up [] p = tt
+none-up (r ∷ rs) p = (p .0, none-up rs (p .1))
+
+ranked-up : (rs : List (Row Unreadable)) (o : Option Unreadable) → Ranked rs o → Ranked (unreadRows rs) (unread o)
+ranked-up rs none p = none-up rs p
+ranked-up rs (some f) p = first-up rs f p
+
+first-early : {F : Type 0} (rs ss : List (Row F)) (f : F) → First rs f → First (rs ++ ss) f
+first-early [] ss f p = absurd p
+first-early (r ∷ rs) ss f p = ⊎-elim inl (λ h. inr (h .0, first-early rs ss f (h .1))) p
+
+later : {F : Type 0} (rs ss : List (Row F)) (o : Option F) → NoRow rs → Ranked ss o → Ranked (rs ++ ss) o
+later [] ss o n p = p
+later (r ∷ rs) ss none n p = (n .0, later rs ss none (n .1) p)
+later (r ∷ rs) ss (some f) n p = inr (n .0, later rs ss (some f) (n .1) p)
+
+ranked-append : {F : Type 0} (rs ss : List (Row F)) (o p : Option F) → Ranked rs o → Ranked ss p → Ranked (rs ++ ss) (orLater o p)
+ranked-append rs ss none p a b = later rs ss p a b
+ranked-append rs ss (some f) p a b = first-early rs ss f a
+
+-- 1 to 9, then 35 to 37
+pub take-ranked : (bench : Bench) (frame : List ℕ) (room : ℕ) → Ranked (silenceRows bench frame room) (takeRefusal bench frame room)
+unfolding silenceRows takeRefusal
+take-ranked bench frame room =
+    ranked-append (unreadRows (readRows frame 240)) (takeRows bench (fieldsOf (messageOf frame)) (dataOf (messageOf frame)) room) (unread (readRefusal frame 240))
+    (requestRefusal bench (fieldsOf (messageOf frame)) (dataOf (messageOf frame)) room) (ranked-up (readRows frame 240) (readRefusal frame 240) (read-ranked frame 240))
+    (request-ranked bench (fieldsOf (messageOf frame)) (dataOf (messageOf frame)) room)
+
+-- and so of the answers, both ways: `.0` for each number, `.1` for none
+module _ (rs : List (Row Fault)) (o : Option Fault) (r : Ranked rs o) where
+  building-exactly : ((f : Fault) → (buildAnswer o ≡ Refused f) ↔ First rs f) × ((buildAnswer o ≡ Done) ↔ NoRow rs)
+  building-exactly = told-exactly buildAnswer Refused (λ f. refl) (λ f g e. cc) (λ f e. clash (cc)) rs o r
+
+pub make-exactly : (address : ℕ) → ((f : Fault) → (buildAnswer (makeRefusal address) ≡ Refused f) ↔ First (makeRows address) f)
+    × ((buildAnswer (makeRefusal address) ≡ Done) ↔ NoRow (makeRows address))
+make-exactly address = building-exactly (makeRows address) (makeRefusal address) (make-ranked address)
+
+pub add-exactly : (bench : Bench) (number kind rights : ℕ)
+    → ((f : Fault) → (buildAnswer (addRefusal bench number kind rights) ≡ Refused f) ↔ First (addRows bench number kind rights) f)
+    × ((buildAnswer (addRefusal bench number kind rights) ≡ Done) ↔ NoRow (addRows bench number kind rights))
+add-exactly bench number kind rights =
+    building-exactly (addRows bench number kind rights) (addRefusal bench number kind rights) (add-ranked bench number kind rights)
+
+pub set-exactly : (bench : Bench) (number : ℕ) (value : Value)
+    → ((f : Fault) → (buildAnswer (setRefusal bench number value) ≡ Refused f) ↔ First (setRows bench number value) f)
+    × ((buildAnswer (setRefusal bench number value) ≡ Done) ↔ NoRow (setRows bench number value))
+set-exactly bench number value = building-exactly (setRows bench number value) (setRefusal bench number value) (set-ranked bench number value)
+
+pub take-exactly : (bench : Bench) (frame : List ℕ) (room : ℕ) (reply : List ℕ)
+    → ((f : Fault) → (takeAnswer (takeRefusal bench frame room) reply ≡ Silent f) ↔ First (silenceRows bench frame room) f)
+    × ((takeAnswer (takeRefusal bench frame room) reply ≡ Answered (length reply)) ↔ NoRow (silenceRows bench frame room))
+take-exactly bench frame room reply =
+    told-exactly (λ (o : Option Fault). takeAnswer o reply) Silent (λ f. refl) (λ f g e. cc) (λ f e. clash (cc))
+    (silenceRows bench frame room) (takeRefusal bench frame room) (take-ranked bench frame room)
+
+-- ---- "It reads with 240 bytes of room of its own, so number 6 doesn't arise."
+
+-- where row 6 is the first that holds, the message is not over 246 bytes, and yet has over 240 bytes of data
+pub never-6 : (frame : List ℕ) → readRefusal frame 240 ≡ some unread.NoRoom → ⊥
+unfolding readRows OverRoom IsLong
+never-6 frame e = ⊎-elim (λ n. clash (cc (n .1))) (λ a. ⊎-elim (λ n. clash (cc (n .1))) (λ b. ⊎-elim (λ n. clash (cc (n .1))) (λ c. ⊎-elim (λ n. clash (cc (n .1))) (λ d. ⊎-elim (λ n. clash (cc (n .1))) (λ h. ⊎-elim
+    (λ six. h .0 (six .0 .0, six .0 .1, omega (arith, six .0 .2)))
+    (λ g. ⊎-elim (λ n. clash (cc (n .1))) (λ i. ⊎-elim (λ n. clash (cc (n .1))) (λ j. ⊎-elim (λ n. clash (cc (n .1))) (λ k. k .1) (j .1)) (i .1)) (g .1))
+    (h .1)) (d .1)) (c .1)) (b .1)) (a .1)) first
+  where
+    first : First (readRows frame 240) unread.NoRoom
+    first = refused-exactly (readRows frame 240) (readRefusal frame 240) (read-ranked frame 240) unread.NoRoom .0 e
+
+-- ---- "It returns its number only, and every buffer, ticket and register and the desk's turn are as before."
+
+build-stays : (o : Option Fault) (before after : Bench) (f : Fault) → buildAnswer o ≡ Refused f → buildBench o before after ≡ before
+build-stays none before after f e = clash (cc)
+build-stays (some g) before after f e = refl
+
+pub add-refused : (bench : Bench) (number kind rights : ℕ) {r : AfterBuild} (f : Fault) → Adds bench number kind rights r → r .answer ≡ Refused f → r .bench ≡ bench
+add-refused bench number kind rights f p e = p .1 ∙ build-stays (addRefusal bench number kind rights) bench (withRegister bench number kind rights) f (sym (p .0) ∙ e)
+
+pub set-refused : (bench : Bench) (number : ℕ) (value : Value) {r : AfterBuild} (f : Fault) → Sets bench number value r → r .answer ≡ Refused f → r .bench ≡ bench
+set-refused bench number value f p e =
+    p .1 ∙ build-stays (setRefusal bench number value) bench
+    (withValue bench (placeOf bench number) (storedAt (sizeOf (registerAt bench (placeOf bench number) .kind)) value)) f (sym (p .0) ∙ e)
+
+-- a bench that is not made holds nothing, and no telegram is for it
+pub make-refused : (address : ℕ) {r : AfterBuild} (f : Fault) → Makes address r → r .answer ≡ Refused f → r .bench ≡ emptyBench 0
+make-refused address f p e = p .1 ∙ build-stays (makeRefusal address) (emptyBench 0) (emptyBench address) f (sym (p .0) ∙ e)
+
+-- "numbers 1 to 5, 7 to 9 and 35 to 37 mean silence"; "A written register is unchanged when 37 is given."
+pub silent-stays : (bench : Bench) (frame room : List ℕ) {r : AfterTake} {room′ : List ℕ} (f : Fault) → Takes bench frame room r room′ → r .answer ≡ Silent f
+    → (r .bench ≡ bench) × (room′ ≡ room)
+silent-stays bench frame room f p e = go (takeRefusal bench frame (length room)) _ _ _ (sym (p .0) ∙ e) (p .1) (p .2)
+  where
+    go : (o : Option Fault) (reply y : List ℕ) (after : Bench) {x : List ℕ} {b : Bench} → takeAnswer o reply ≡ Silent f → b ≡ takeBench o bench after → x ≡ takeRoom o reply y → (b ≡ bench) × (x ≡ y)
+    go none reply y after a q w = clash (cc)
+    go (some g) reply y after a q w = (q, w)
+
+-- "A reply is first read as a telegram; a refusal there ends the call": the refusal passed up whole and nothing changed
+pub unread-stays : (bench : Bench) (frame room : List ℕ) {r : AfterTake} {room′ : List ℕ} (f : Unreadable) → readRefusal frame 240 ≡ some f
+    → Takes bench frame room r room′ → (r .answer ≡ Silent (Unread f)) × (r .bench ≡ bench) × (room′ ≡ room)
+unread-stays bench frame room f e p =
+    let refusal : takeRefusal bench frame (length room) ≡ some (Unread f) = passed-up in
+    (p .0 ∙ rw refusal, p .1 ∙ rw refusal, p .2 ∙ rw refusal)
+  where
+    passed-up : takeRefusal bench frame (length room) ≡ some (Unread f)
+    passed-up = refused-up bench frame (length room) f e
+
+-- ---- M 3: "Take any accepted message and alter one or more bits [..]. Frame it again and offer it [..]. It is refused as a check fault" and no
+-- register of any bench changes, with any reply buffer
+
+pub altered-silent : (frame : List ℕ) (size : ℕ) (t : Fields) → readFrame frame size ≡ Telegram t
+    → (m : List ℕ) → length (messageOf frame) ≡ length m → remainderOf (combined (messageOf frame) m) ≢ 0
+    → (bench : Bench) (room : List ℕ) {r : AfterTake} {room′ : List ℕ} → Takes bench (framed m) room r room′
+    → (r .answer ≡ Silent (Unread unread.CheckFault)) × (r .bench ≡ bench) × (room′ ≡ room)
+altered-silent frame size t e m same odd bench room p =
+    unread-stays bench (framed m) room unread.CheckFault (altered-refused frame size t e m same odd 240 (omega arith)) p
+
+-- bursts within 16 neighbouring bits
+pub nearby-silent : (frame : List ℕ) (size : ℕ) (t : Fields) → readFrame frame size ≡ Telegram t → (m : List ℕ) → AlteredNearby (messageOf frame) m
+    → (bench : Bench) (room : List ℕ) {r : AfterTake} {room′ : List ℕ} → Takes bench (framed m) room r room′
+    → (r .answer ≡ Silent (Unread unread.CheckFault)) × (r .bench ≡ bench) × (room′ ≡ room)
+nearby-silent frame size t e m near = altered-silent frame size t e m (near .same-length) (burst-seen (combined (messageOf frame) m) (nearby-burst near))
+
+-- ---- "Show that any two outcomes allowed by it are equal."
+
+pub numbers-once : (f : Fault) {a b : ℕ} → Numbers f a → Numbers f b → a ≡ b
+numbers-once f p q = p ∙ sym q
+
+pub looks-once : (bench : Bench) (number : ℕ) {a b : Seen} → Looks bench number a → Looks bench number b → a ≡ b
+looks-once bench number p q = p ∙ sym q
+
+built : {r s : AfterBuild} → r .answer ≡ s .answer → r .bench ≡ s .bench → r ≡ s
+built a b = ap₂ (λ (x : Building) (y : Bench). record { bench = y; answer = x }) a b
+
+pub makes-once : (address : ℕ) {r s : AfterBuild} → Makes address r → Makes address s → r ≡ s
+makes-once address p q = built (p .0 ∙ sym (q .0)) (p .1 ∙ sym (q .1))
+
+pub adds-once : (bench : Bench) (number kind rights : ℕ) {r s : AfterBuild} → Adds bench number kind rights r → Adds bench number kind rights s → r ≡ s
+adds-once bench number kind rights p q = built (p .0 ∙ sym (q .0)) (p .1 ∙ sym (q .1))
+
+pub sets-once : (bench : Bench) (number : ℕ) (value : Value) {r s : AfterBuild} → Sets bench number value r → Sets bench number value s → r ≡ s
+sets-once bench number value p q = built (p .0 ∙ sym (q .0)) (p .1 ∙ sym (q .1))
+
+pub takes-once : (bench : Bench) (frame room : List ℕ) {r s : AfterTake} {x y : List ℕ} → Takes bench frame room r x → Takes bench frame room s y → (r ≡ s) × (x ≡ y)
+takes-once bench frame room p q = (
+  ap₂ (λ (a : Taking) (b : Bench). record { bench = b; answer = a }) (p .0 ∙ sym (q .0)) (p .1 ∙ sym (q .1)),
+  p .2 ∙ sym (q .2),
+)

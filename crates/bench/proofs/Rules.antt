@@ -1,0 +1,240 @@
+-- The four rules of a telegram for the bench, in the paper's words, and what every reply is.
+-- Assumes nothing.
+use Rattle.telegram.specs.declared.Reading.{Reading}
+use Rattle.telegram.specs.Read.{Reads}
+use mathlib.Core.Path.{_≡_, refl, sym, _∙_}
+use mathlib.Core.Bool.{Bool, true, false, cond, _&&_}
+use mathlib.Core.List.{List, []}
+use mathlib.Core.Logic.{_⊎_, inl, inr}
+use mathlib.Core.Option.{none}
+use Prim.Native.Nat.{ℕ, _/_, _%_, _≤_}
+use native.Mathlib.Omega.{arith}
+use borrow.Author.Tests.{eqb-true}
+use lib.Dec.{eqb}
+use lib.ListN.{length, take}
+use lib.Seq.{set-getD}
+use Rattle.frame.specs.Frame.{messageOf}
+use Rattle.lent.specs.Lent.{over}
+use Rattle.rows.proofs.Laws.{Decides, decides-eq, told-false, done-exactly}
+use Rattle.telegram.proofs.Judge.{reading-telegram}
+use Rattle.telegram.proofs.Laws.{reads-back}
+use Rattle.telegram.specs.Read.{fieldsOf, dataOf, readFrame}
+use Rattle.telegram.specs.Write.{telegramFor}
+use Rattle.values.proofs.Bytes.{length-bytesOf}
+use Rattle.values.specs.Values.{sizeOf, natural, bytesOf, setBits, clearBits, toggleBits}
+use Rattle.telegram.specs.declared.Fields.{Fields}
+use Rattle.telegram.specs.declared.Reading.the-variants.{Telegram}
+use Rattle.bench.proofs.Answering.{wrote-so, addressed}
+use Rattle.bench.proofs.Deeds.{read-allowed, write-allowed, deed-read, Small, deed-small}
+use Rattle.bench.proofs.Laws.{decides-both, decides-held, request-ranked}
+use Rattle.bench.specs.Register.{Held, noRegister, registerAt, placeOf, isHeld, HasRight, hasRight, withValue}
+use Rattle.bench.specs.Take.{nack, ack, datagram, readDeed, writeDeed, heldDeed, deedOf, replyFor, replyOf, IsOtherAddress, IsNotARequest, IsNoRoom, takeRows, requestRefusal, takeRefusal, doneTo, Takes}
+use Rattle.bench.specs.declared.Register.{Register}
+use Rattle.bench.specs.declared.Bench.{Bench}
+use Rattle.bench.specs.declared.Taking.the-variants.{Answered}
+use Rattle.bench.specs.declared.Deed.{Deed}
+use Rattle.bench.specs.declared.AfterTake.{AfterTake}
+
+-- the register that a number names
+abbrev pub named : Bench → ℕ → Register
+named bench number = registerAt bench (placeOf bench number)
+
+-- ---- when each rule applies to a held register
+
+-- "read with the right and no data"
+abbrev pub MayRead : Register → ℕ → List ℕ → Type 0
+MayRead register sort bytes = (sort ≡ 4) × HasRight register 1 × (length bytes ≡ 0)
+
+-- "write with the right and exactly the kind's size of data"
+abbrev pub MayWrite : Register → ℕ → List ℕ → Type 0
+MayWrite register sort bytes = (sort ≡ 5) × HasRight register 2 × (length bytes ≡ sizeOf (register .kind))
+
+-- "set, clear or toggle with right 4 and that size"
+abbrev pub MayChange : Register → ℕ → List ℕ → Type 0
+MayChange register sort bytes = ((sort ≡ 6) ⊎ ((sort ≡ 7) ⊎ (sort ≡ 9))) × HasRight register 4 × (length bytes ≡ sizeOf (register .kind))
+
+-- ---- the deed of each
+
+pub told : {b : Bool} {P : Type 0} → Decides b P → P → b ≡ true
+told {b} {P} d p = go b d
+  where
+    go : (t : Bool) → Decides t P → t ≡ true
+    go true d = refl
+    go false d = absurd (d .not-so refl p)
+
+choose : {A : Type 0} (b : Bool) (x y z : A) → (b ≡ true → x ≡ z) → y ≡ z → cond b x y ≡ z
+choose true x y z p q = p refl
+choose false x y z p q = q
+
+module _ (register : Register) (sort : ℕ) (bytes : List ℕ) where
+  read-deed : MayRead register sort bytes → heldDeed register sort bytes ≡ datagram register
+  read-deed m =
+      sym (deed-read register sort bytes (m .0))
+      ∙ sym (read-allowed register (length bytes) (hasRight register 1) _ refl (told (decides-eq (register .rights / 1 % 2) 1) (m .1)) (m .2) refl)
+
+  changed : (right value : ℕ) → HasRight register right → length bytes ≡ sizeOf (register .kind) → writeDeed register right (length bytes) value ≡ ack value
+  changed right value h n =
+      sym (write-allowed register (length bytes) right value (hasRight register right) refl (told (decides-eq (register .rights / right % 2) 1) h) n)
+
+  write-deed : MayWrite register sort bytes → heldDeed register sort bytes ≡ ack (natural bytes)
+  unfolding heldDeed
+  write-deed m = rw (m .0) (changed 2 (natural bytes) (m .1) (m .2))
+
+  module _ (h : HasRight register 4) (n : length bytes ≡ sizeOf (register .kind)) where
+    set-deed : sort ≡ 6 → heldDeed register sort bytes ≡ ack (setBits (register .value) (natural bytes))
+    unfolding heldDeed
+    set-deed e = rw e (changed 4 (setBits (register .value) (natural bytes)) h n)
+
+    clear-deed : sort ≡ 7 → heldDeed register sort bytes ≡ ack (clearBits (register .value) (natural bytes))
+    unfolding heldDeed
+    clear-deed e = rw e (changed 4 (clearBits (register .value) (natural bytes)) h n)
+
+    toggle-deed : sort ≡ 9 → heldDeed register sort bytes ≡ ack (toggleBits (register .value) (natural bytes))
+    unfolding heldDeed
+    toggle-deed e = rw e (changed 4 (toggleBits (register .value) (natural bytes)) h n)
+
+  unread-deed : (HasRight register 1 × (length bytes ≡ 0) → ⊥) → readDeed register (length bytes) ≡ nack (register .value)
+  unfolding readDeed
+  unread-deed n =
+      choose (hasRight register 1 && eqb (length bytes) 0) (datagram register) (nack (register .value)) (nack (register .value))
+      (λ e. absurd (n (decides-both (decides-eq (register .rights / 1 % 2) 1) (decides-eq (length bytes) 0) .so e))) refl
+
+  unwritten-deed : (right value : ℕ) → (HasRight register right × (length bytes ≡ sizeOf (register .kind)) → ⊥)
+      → writeDeed register right (length bytes) value ≡ nack (register .value)
+  unfolding writeDeed
+  unwritten-deed right value n =
+      choose (hasRight register right && eqb (length bytes) (sizeOf (register .kind))) (ack value) (nack (register .value)) (nack (register .value))
+      (λ e. absurd (n (decides-both (decides-eq (register .rights / right % 2) 1) (decides-eq (length bytes) (sizeOf (register .kind))) .so e))) refl
+
+  other-deed : (MayRead register sort bytes → ⊥) → (MayWrite register sort bytes → ⊥) → (MayChange register sort bytes → ⊥)
+      → heldDeed register sort bytes ≡ nack (register .value)
+  unfolding heldDeed
+  other-deed no-read no-write no-change =
+      choose (eqb sort 4) _ _ _ (λ e. unread-deed (λ h. no-read (eqb-true sort 4 e, h .0, h .1)))
+      (choose (eqb sort 5) _ _ _ (λ e. unwritten-deed 2 (natural bytes) (λ h. no-write (eqb-true sort 5 e, h .0, h .1)))
+      (choose (eqb sort 6) _ _ _ (λ e. unwritten-deed 4 (setBits (register .value) (natural bytes)) (λ h. no-change (inl (eqb-true sort 6 e), h .0, h .1)))
+      (choose (eqb sort 7) _ _ _ (λ e. unwritten-deed 4 (clearBits (register .value) (natural bytes)) (λ h. no-change (inr (inl (eqb-true sort 7 e)), h .0, h .1)))
+      (choose (eqb sort 9) _ _ _ (λ e. unwritten-deed 4 (toggleBits (register .value) (natural bytes)) (λ h. no-change (inr (inr (eqb-true sort 9 e)), h .0, h .1))) refl))))
+
+-- ---- a telegram that the bench answers
+
+-- it was read, it is for this bench, it is a request, and there is room for the reply
+pub record Answerable (bench : Bench) (frame : List ℕ) (t : Fields) (room : ℕ) : Type 0 where
+  pub read : readFrame frame 240 ≡ Telegram t
+  pub ours : t .destination ≡ bench .address
+  pub asks : IsNotARequest t → ⊥
+  pub roomy : length (replyOf bench t (dataOf (messageOf frame))) ≤ room
+
+-- the reply goes "to the telegram's source", from the bench's address, with the register, a type and data; the bench is then `after`
+abbrev pub Gives : Bench → Fields → List ℕ → ℕ → List ℕ → Bench → AfterTake → List ℕ → Type 0
+Gives bench t room sort bytes after r room′ =
+    (r .answer ≡ Answered (length (telegramFor (t .source) (bench .address) sort (t .register) bytes)))
+    × (r .bench ≡ after)
+    × (room′ ≡ over (telegramFor (t .source) (bench .address) sort (t .register) bytes) room)
+
+module _ (bench : Bench) (frame : List ℕ) (t : Fields) (room : List ℕ) (may : Answerable bench frame t (length room)) where
+  bytes : List ℕ
+  bytes = dataOf (messageOf frame)
+
+  no-refusal : takeRefusal bench frame (length room) ≡ none
+  unfolding takeRefusal takeRows bytes IsOtherAddress IsNoRoom
+  no-refusal =
+      let read = reading-telegram frame 240 t (may .read) in
+      let none-of : requestRefusal bench t bytes (length room) ≡ none =
+      done-exactly (takeRows bench t bytes (length room)) _ (request-ranked bench t bytes (length room)) .1
+      ((λ n. n (may .ours)), (may .asks, ((λ l. omega (arith, may .roomy)), tt))) in
+      rw (read .0) (rw (read .1) at none-of)
+
+  module _ {r : AfterTake} {room′ : List ℕ} (takes : Takes bench frame room r room′) where
+    -- whatever the deed is, it is done and answered
+    gives : (deed : Deed) (after : Bench) → deedOf bench t (dataOf (messageOf frame)) ≡ deed → doneTo bench (t .register) deed ≡ after
+        → Gives bench t room (deed .sort) (bytesOf (deed .size) (deed .value)) after r room′
+    unfolding replyOf replyFor
+    gives deed after d a =
+        let is : t ≡ fieldsOf (messageOf frame) = reading-telegram frame 240 t (may .read) .1 in
+        let given = rw (no-refusal, ← is, d) at takes in
+        (given .0, given .1 ∙ a, given .2)
+
+    held-deed : Held bench (t .register) → (deed : Deed) → heldDeed (named bench (t .register)) (t .sort) (dataOf (messageOf frame)) ≡ deed
+        → deedOf bench t (dataOf (messageOf frame)) ≡ deed
+    unfolding deedOf
+    held-deed h deed e = rw (told (decides-held bench (t .register)) h) e
+
+    changes : Held bench (t .register) → (deed : Deed) → doneTo bench (t .register) deed ≡ withValue bench (placeOf bench (t .register)) (deed .value)
+    unfolding doneTo
+    changes h deed = rw (told (decides-held bench (t .register)) h)
+
+    stays : (deed : Deed) → deed .value ≡ named bench (t .register) .value → doneTo bench (t .register) deed ≡ bench
+    unfolding doneTo
+    stays deed e = go (isHeld bench (t .register))
+      where
+        go : (b : Bool) → cond b (withValue bench (placeOf bench (t .register)) (deed .value)) bench ≡ bench
+        go true = rw (e, set-getD (bench .registers) (placeOf bench (t .register)) noRegister)
+        go false = refl
+
+    module _ (h : Held bench (t .register)) where
+      -- "read with the right and no data: a datagram with the value"
+      pub read-rule : MayRead (named bench (t .register)) (t .sort) (dataOf (messageOf frame))
+          → Gives bench t room 8 (bytesOf (sizeOf (named bench (t .register) .kind)) (named bench (t .register) .value)) bench r room′
+      read-rule m = gives (datagram (named bench (t .register))) bench (held-deed h _ (read-deed _ _ _ m)) (stays _ refl)
+
+      -- "write with the right and exactly the kind's size of data: ack, and the value is those bytes"
+      pub write-rule : MayWrite (named bench (t .register)) (t .sort) (dataOf (messageOf frame))
+          → Gives bench t room 3 [] (withValue bench (placeOf bench (t .register)) (natural (dataOf (messageOf frame)))) r room′
+      unfolding bytesOf
+      write-rule m = gives (ack (natural (dataOf (messageOf frame)))) _ (held-deed h _ (write-deed _ _ _ m)) (changes h _)
+
+      -- "set, clear or toggle with right 4 and that size: ack"
+      module _ (right : HasRight (named bench (t .register)) 4) (size : length (dataOf (messageOf frame)) ≡ sizeOf (named bench (t .register) .kind)) where
+        pub set-rule : t .sort ≡ 6
+            → Gives bench t room 3 []
+            (withValue bench (placeOf bench (t .register)) (setBits (named bench (t .register) .value) (natural (dataOf (messageOf frame))))) r room′
+        unfolding bytesOf
+        set-rule e = gives (ack (setBits (named bench (t .register) .value) (natural (dataOf (messageOf frame))))) _ (held-deed h _ (set-deed _ _ _ right size e)) (changes h _)
+
+        pub clear-rule : t .sort ≡ 7
+            → Gives bench t room 3 []
+            (withValue bench (placeOf bench (t .register)) (clearBits (named bench (t .register) .value) (natural (dataOf (messageOf frame))))) r room′
+        unfolding bytesOf
+        clear-rule e = gives (ack (clearBits (named bench (t .register) .value) (natural (dataOf (messageOf frame))))) _ (held-deed h _ (clear-deed _ _ _ right size e)) (changes h _)
+
+        pub toggle-rule : t .sort ≡ 9
+            → Gives bench t room 3 []
+            (withValue bench (placeOf bench (t .register)) (toggleBits (named bench (t .register) .value) (natural (dataOf (messageOf frame))))) r room′
+        unfolding bytesOf
+        toggle-rule e = gives (ack (toggleBits (named bench (t .register) .value) (natural (dataOf (messageOf frame))))) _ (held-deed h _ (toggle-deed _ _ _ right size e)) (changes h _)
+
+      -- "anything else [..]: nack, nothing changed"
+      pub nack-rule : (MayRead (named bench (t .register)) (t .sort) (dataOf (messageOf frame)) → ⊥)
+          → (MayWrite (named bench (t .register)) (t .sort) (dataOf (messageOf frame)) → ⊥)
+          → (MayChange (named bench (t .register)) (t .sort) (dataOf (messageOf frame)) → ⊥)
+          → Gives bench t room 0 [] bench r room′
+      unfolding bytesOf
+      nack-rule no-read no-write no-change =
+          gives (nack (named bench (t .register) .value)) bench (held-deed h _ (other-deed _ _ _ no-read no-write no-change)) (stays _ refl)
+
+    -- "an unknown register included"
+    pub unknown-rule : (Held bench (t .register) → ⊥) → Gives bench t room 0 [] bench r room′
+    unfolding bytesOf deedOf doneTo
+    unknown-rule n =
+        let not-there : isHeld bench (t .register) ≡ false = told-false (decides-held bench (t .register)) n in
+        gives (nack 0) bench (rw not-there) (rw not-there)
+
+    -- every reply is a telegram that the reader accepts, from the bench to the asker, with the register
+    pub reply-reads : (n : ℕ) → r .answer ≡ Answered n → (buffer : List ℕ) (a : Reading) (buffer′ : List ℕ) → 8 ≤ length buffer → Reads (take n room′) buffer a buffer′
+        → (deed : Deed) → deedOf bench t (dataOf (messageOf frame)) ≡ deed
+        → (a ≡ Telegram (record { destination = t .source; source = bench .address; sort = deed .sort; register = t .register; size = deed .size }))
+        × (buffer′ ≡ over (bytesOf (deed .size) (deed .value)) buffer)
+    unfolding replyOf replyFor
+    reply-reads n e buffer a buffer′ wide reads deed d =
+        let given = gives deed _ d refl in
+        let small : Small deed = rw d at (deed-small bench t (dataOf (messageOf frame))) in
+        let ends = addressed frame t (may .read) in
+        let size : length (bytesOf (deed .size) (deed .value)) ≡ deed .size = length-bytesOf (deed .size) (deed .value) in
+        let wrote = wrote-so bench t deed (ends .1) (λ z. ends .0 (may .ours ∙ z)) small (bytesOf (deed .size) (deed .value)) refl room room′ (rw d at (may .roomy)) (given .2) in
+        let same : n ≡ length (telegramFor (t .source) (bench .address) (deed .sort) (t .register) (bytesOf (deed .size) (deed .value))) = answered-same (sym e ∙ given .0) in
+        let back = reads-back (t .source) (bench .address) (deed .sort) (t .register) (bytesOf (deed .size) (deed .value)) room n room′ (rw same wrote) buffer a buffer′ (omega (arith, small .1)) reads in
+        rw size at back
+      where
+        answered-same : {m k : ℕ} → Answered m ≡ Answered k → m ≡ k
+        answered-same q = cc
