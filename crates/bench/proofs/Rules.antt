@@ -136,7 +136,8 @@ module _ (bench : Bench) (frame : List ℕ) (t : Fields) (room : List ℕ) (may 
   bytes : List ℕ
   bytes = dataOf (messageOf frame)
 
-  no-refusal : takeRefusal bench frame (length room) ≡ none
+  -- nothing keeps the bench silent
+  pub no-refusal : takeRefusal bench frame (length room) ≡ none
   unfolding takeRefusal takeRows bytes IsOtherAddress IsNoRoom
   no-refusal =
       let read = reading-telegram frame 240 t (may .read) in

@@ -54,7 +54,7 @@ sound-store (t ∷ tickets) (suc place) ticket all new (suc i) live = sound-stor
 
 -- ---- what rows 10 to 14 let through is sound
 
-allowed-sound : (job unit sort register : ℕ) (bytes : List ℕ) (wait clock : ℕ) → askRefusal job unit sort bytes wait ≡ none
+pub allowed-sound : (job unit sort register : ℕ) (bytes : List ℕ) (wait clock : ℕ) → askRefusal job unit sort bytes wait ≡ none
     → SoundTicket (newTicket job unit sort register wait clock)
 unfolding askRefusal
 allowed-sound job unit sort register bytes wait clock e =

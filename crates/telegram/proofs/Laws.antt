@@ -55,11 +55,12 @@ module _ (d s t r : ℕ) (bytes : List ℕ) where
   size-of-written : length (messageFor d s t r bytes) - 6 ≡ length bytes
   size-of-written = let e : length (messageFor d s t r bytes) ≡ length bytes + 6 = length-messageFor d s t r bytes in omega arith
 
-  fields-of-written : fieldsOf (messageFor d s t r bytes) ≡ fieldsFor
+  -- what was written has these fields and these data
+  pub fields-of-written : fieldsOf (messageFor d s t r bytes) ≡ fieldsFor
   unfolding fieldsOf sealed
   fields-of-written = rw size-of-written
 
-  data-of-written : dataOf (messageFor d s t r bytes) ≡ bytes
+  pub data-of-written : dataOf (messageFor d s t r bytes) ≡ bytes
   unfolding dataOf sealed
   data-of-written = rw size-of-written (take-append-seam bytes _)
 

@@ -1,0 +1,261 @@
+-- End to end: a request that was opened at the desk, the reply of a bench at that module's address, and the ticket that the reply closes.
+-- Assumes nothing.
+use mathlib.Core.Path.{_≡_, refl, sym, ap, _∙_}
+use mathlib.Core.Bool.{Bool, true, false, cond, _&&_}
+use mathlib.Core.List.{List}
+use mathlib.Core.Logic.{_≢_, _⊎_, inl, inr, ⊎-elim}
+use mathlib.Core.Option.{some, none}
+use Prim.Native.Nat.{ℕ, _+_, _/_, _%_, _≤_, _<_}
+use native.Mathlib.Omega.{arith}
+use borrow.Author.Tests.{eqb-true, eqb-false}
+use lib.Dec.{eqb}
+use lib.ListN.{length, take, replicate, length-set, length-replicate}
+use lib.Seq.{getD-set-same}
+use Rattle.frame.proofs.Laws.{length-framed}
+use Rattle.frame.specs.Frame.{substituted, messageOf}
+use Rattle.lent.proofs.Laws.{take-over}
+use Rattle.lent.specs.Lent.{over}
+use Rattle.rows.proofs.Laws.{done-exactly, refused-exactly, decides-eq}
+use Rattle.telegram.proofs.Judge.{reading-telegram}
+use Rattle.telegram.proofs.Laws.{fieldsFor, data-of-written}
+use Rattle.telegram.proofs.Sound.{messageOf-framed}
+use Rattle.telegram.proofs.Send.{length-messageFor}
+use Rattle.telegram.specs.Read.{readRefusal, fieldsOf, dataOf, roomAfter, readFrame}
+use Rattle.telegram.specs.Write.{messageFor, telegramFor}
+use Rattle.telegram.specs.declared.Fields.{Fields}
+use Rattle.telegram.specs.declared.Reading.the-variants.{Telegram}
+use Rattle.values.proofs.Bytes.{length-bytesOf}
+use Rattle.values.specs.Values.{sizeOf, bytesOf}
+use Rattle.bench.proofs.Deeds.{Small, deed-small}
+use Rattle.bench.proofs.Laws.{decides-held}
+use Rattle.bench.proofs.Rules.{named, told as told-true, MayRead, Answerable, no-refusal, reply-reads}
+use Rattle.bench.specs.Register.{Held, HasRight, hasRight, isHeld}
+use Rattle.bench.specs.Take.{nack, ack, datagram, readDeed, writeDeed, heldDeed, deedOf, replyFor, replyOf, IsNotARequest, Takes}
+use Rattle.bench.specs.declared.Bench.{Bench}
+use Rattle.bench.specs.declared.Deed.{Deed}
+use Rattle.bench.specs.declared.Register.{Register}
+use Rattle.bench.specs.declared.Taking.the-variants.{Answered}
+use Rattle.bench.specs.declared.AfterTake.{AfterTake}
+use Rattle.desk.proofs.Calls.{allowed-writable}
+use Rattle.desk.proofs.Laws.{opened-fit, fit-to-open, on-host, ClosedAlone, closes-alone, request-reads-back}
+use Rattle.desk.proofs.Ranking.{ask-ranked, book-ranked}
+use Rattle.desk.specs.Open.{IsWrongData, askRows, askRefusal, givenPlace, requestAt, openRefusal, newTicket, withTicket, Opens}
+use Rattle.desk.specs.Reply.{KindFits, RegisterFits, IsNoTicket, IsOtherModule, IsOtherKind, IsOtherRegister, bookRows, bookRefusal, replyRefusal, Replies}
+use Rattle.desk.specs.Ticket.{noTicket, ticketOn, OpenOn, closedOn}
+use Rattle.desk.specs.declared.Desk.{Desk}
+use Rattle.desk.specs.declared.Fault.the-variants.{OtherModule}
+use Rattle.desk.specs.declared.Ticket.{Ticket}
+use Rattle.desk.specs.declared.Opening.the-variants.{Opened}
+use Rattle.desk.specs.declared.Booking.the-variants.{Booked, Refused}
+use Rattle.desk.specs.declared.AfterOpen.{AfterOpen}
+use Rattle.desk.specs.declared.AfterReply.{AfterReply}
+use Rattle.nights.proofs.Laws.{allowed-sound}
+use Rattle.nights.specs.Night.{SoundTicket, SoundDesk}
+
+-- ---- what a bench answers is of a kind that fits what was asked
+
+abbrev FitsAsked : ℕ → Deed → Type 0
+FitsAsked sort deed = KindFits sort (deed .sort)
+
+by-test : {A : Type 0} (P : A → Type 0) (b : Bool) (x y : A) → (b ≡ true → P x) → (b ≡ false → P y) → P (cond b x y)
+by-test P true x y p q = p refl
+by-test P false x y p q = q refl
+
+module _ (register : Register) (sort : ℕ) where
+  nacked : (v : ℕ) → FitsAsked sort (nack v)
+  unfolding KindFits
+  nacked v = inr (inr (inl refl))
+
+  acked : (right n v : ℕ) → sort ≢ 4 → FitsAsked sort (writeDeed register right n v)
+  unfolding writeDeed KindFits
+  acked right n v other =
+      by-test (FitsAsked sort) (hasRight register right && eqb n (sizeOf (register .kind))) (ack v) (nack (register .value))
+      (λ e. inr (inl (other, refl))) (λ e. nacked (register .value))
+
+  read : (n : ℕ) → sort ≡ 4 → FitsAsked sort (readDeed register n)
+  unfolding readDeed KindFits
+  read n is =
+      by-test (FitsAsked sort) (hasRight register 1 && eqb n 0) (datagram register) (nack (register .value))
+      (λ e. inl (is, refl)) (λ e. nacked (register .value))
+
+  held : (bytes : List ℕ) → FitsAsked sort (heldDeed register sort bytes)
+  unfolding heldDeed
+  held bytes =
+      by-test (FitsAsked sort) (eqb sort 4) _ _ (λ e. read (length bytes) (eqb-true sort 4 e))
+      (λ other. by-test (FitsAsked sort) (eqb sort 5) _ _ (λ e. acked 2 (length bytes) _ (eqb-false sort 4 other))
+      (λ e. by-test (FitsAsked sort) (eqb sort 6) _ _ (λ e. acked 4 (length bytes) _ (eqb-false sort 4 other))
+      (λ e. by-test (FitsAsked sort) (eqb sort 7) _ _ (λ e. acked 4 (length bytes) _ (eqb-false sort 4 other))
+      (λ e. by-test (FitsAsked sort) (eqb sort 9) _ _ (λ e. acked 4 (length bytes) _ (eqb-false sort 4 other))
+      (λ e. nacked (register .value))))))
+
+answer-fits : (bench : Bench) (t : Fields) (bytes : List ℕ) → FitsAsked (t .sort) (deedOf bench t bytes)
+unfolding deedOf
+answer-fits bench t bytes =
+    by-test (FitsAsked (t .sort)) (isHeld bench (t .register)) (heldDeed (named bench (t .register)) (t .sort) bytes) (nack 0)
+    (λ e. held (named bench (t .register)) (t .sort) bytes) (λ e. nacked (named bench (t .register)) (t .sort) 0)
+
+-- ---- the request, as the bench reads it
+
+-- of a desk as any calls leave it, and an opening there that was not refused
+module _ (desk : Desk) (sound : SoundDesk desk) (job unit sort register : ℕ) (bytes : List ℕ) (wait clock : ℕ) (room : List ℕ) (o : AfterOpen) (room′ : List ℕ)
+    (opens : Opens desk job unit sort register bytes wait clock room o room′) (address n : ℕ) (opened : o .answer ≡ Opened address n) where
+  -- the request on the line
+  abbrev request : List ℕ
+  request = take n room′
+
+  abbrev fields : Fields
+  fields = fieldsFor unit address sort register bytes
+
+  abbrev ticket : Ticket
+  ticket = newTicket job unit sort register wait clock
+
+  told : (openRefusal desk ticket bytes (length room) ≡ none) × (address ≡ 161 + givenPlace desk) × (n ≡ length (requestAt (givenPlace desk) ticket bytes))
+  told = opened-fit desk job unit sort register bytes wait clock room o room′ opens address n opened
+
+  allowed : askRefusal job unit sort bytes wait ≡ none
+  allowed = fit-to-open desk ticket bytes (length room) (told .0) .0
+
+  -- the ticket stands on the address that was given
+  pub ticket-stands : ticketOn (o .desk) address ≡ ticket
+  unfolding givenPlace
+  ticket-stands =
+      let there : o .desk ≡ withTicket desk (givenPlace desk) ticket = opens .1 ∙ rw (told .0) in
+      rw (there, told .1) (on-host (withTicket desk (givenPlace desk) ticket) (givenPlace desk)
+      ∙ getD-set-same (desk .tickets) (givenPlace desk) ticket noTicket (omega (arith, sound .places)))
+
+  -- on the line stands the telegram of the request
+  request-is : request ≡ telegramFor unit address sort register bytes
+  request-is =
+      let there : room′ ≡ over (requestAt (givenPlace desk) ticket bytes) room = opens .2 ∙ rw (told .0) in
+      rw (there, told .2, told .1) (take-over (requestAt (givenPlace desk) ticket bytes) room (fit-to-open desk ticket bytes (length room) (told .0) .2))
+
+  request-data : dataOf (messageOf request) ≡ bytes
+  request-data = rw request-is (rw (messageOf-framed (messageFor unit address sort register bytes)) (data-of-written unit address sort register bytes))
+
+  -- read with the bench's own 240 bytes of room it is what was asked
+  space : List ℕ
+  space = replicate 240 0
+
+  wide : length space ≡ 240
+  unfolding space
+  wide = length-replicate {A = ℕ} 240 0
+
+  request-read : readFrame request 240 ≡ Telegram fields
+  request-read = rw wide at (request-reads-back desk job unit sort register bytes wait clock room o room′ opens address n opened
+      space (readFrame request (length space)) (roomAfter (readRefusal request (length space)) (dataOf (messageOf request)) space)
+      (rw wide (allowed-writable job unit sort bytes wait allowed .0)) (refl, refl) .0)
+
+  asks-something : IsNotARequest fields → ⊥
+  unfolding IsNotARequest
+  asks-something answers =
+      let asked : (4 ≤ sort) × (sort ≢ 8) =
+      five (λ e. (omega arith, λ z. omega arith)) (λ e. (omega arith, λ z. omega arith)) (λ e. (omega arith, λ z. omega arith)) (λ e. (omega arith, λ z. omega arith))
+      (λ e. (omega arith, λ z. omega arith)) (allowed-sound job unit sort register bytes wait clock allowed .has-request) in
+      five (λ e. omega (arith, asked .0)) (λ e. omega (arith, asked .0)) (λ e. omega (arith, asked .0)) (λ e. omega (arith, asked .0)) (asked .1) answers
+    where
+      five : {A B C D E R : Type 0} → (A → R) → (B → R) → (C → R) → (D → R) → (E → R) → A ⊎ (B ⊎ (C ⊎ (D ⊎ E))) → R
+      five a b c d e = ⊎-elim a (⊎-elim b (⊎-elim c (⊎-elim d e)))
+
+  -- ---- a bench at that module's address, with room for its reply
+  module _ (bench : Bench) (here : bench .address ≡ unit) (buffer : List ℕ) (q : AfterTake) (buffer′ : List ℕ) (takes : Takes bench request buffer q buffer′)
+      (roomy : length (replyOf bench fields bytes) ≤ length buffer) where
+    abbrev deed : Deed
+    deed = deedOf bench fields bytes
+
+    may : Answerable bench request fields (length buffer)
+    may =
+        record {
+          read = request-read;
+          ours = sym here;
+          asks = asks-something;
+          roomy = rw request-data roomy;
+        }
+
+    -- it "gives a reply"
+    pub is-replied : q .answer ≡ Answered (length (replyOf bench fields bytes))
+    is-replied =
+        let is = reading-telegram request 240 fields request-read .1 in
+        takes .0 ∙ rw (no-refusal bench request fields buffer may, ← is, request-data)
+
+    -- the reply on the line
+    abbrev reply : List ℕ
+    reply = take (length (replyOf bench fields bytes)) buffer′
+
+    abbrev answer : Fields
+    answer = record { destination = address; source = bench .address; sort = deed .sort; register = register; size = deed .size }
+
+    -- a read never has data (13), so a read with the right is answered by the value
+    datagram-of : sort ≡ 4 → Held bench register → HasRight (named bench register) 1 → deed ≡ datagram (named bench register)
+    unfolding deedOf heldDeed readDeed askRows IsWrongData
+    datagram-of is there right =
+        let none-of = done-exactly (askRows job unit sort bytes wait) _ (ask-ranked job unit sort bytes wait) .0 allowed in
+        let no-data : 0 < length bytes → ⊥ = λ h. none-of .1 .1 .1 .0 (inr (is, h)) in
+        let empty : length bytes ≡ 0 = omega (arith, no-data) in
+        rw (told-true (decides-held bench register) there, is, told-true (decides-eq (named bench register .rights / 1 % 2) 1) right, empty)
+
+    -- ---- the reply offered to a desk, with 8 bytes of room or more
+    module _ (desk₂ : Desk) (room₂ : List ℕ) (enough : 8 ≤ length room₂) (b : AfterReply) (room₂′ : List ℕ) (replies : Replies desk₂ reply room₂ b room₂′) where
+      reply-read : (readFrame reply (length room₂) ≡ Telegram answer)
+          × (roomAfter (readRefusal reply (length room₂)) (dataOf (messageOf reply)) room₂ ≡ over (bytesOf (deed .size) (deed .value)) room₂)
+      reply-read =
+          reply-reads bench request fields buffer may takes (length (replyOf bench fields bytes)) is-replied room₂ (readFrame reply (length room₂))
+          (roomAfter (readRefusal reply (length room₂)) (dataOf (messageOf reply)) room₂) enough (refl, refl) deed (rw request-data refl)
+
+      no-fault : readRefusal reply (length room₂) ≡ none
+      no-fault = reading-telegram reply (length room₂) answer (reply-read .0) .0
+
+      is-answer : answer ≡ fieldsOf (messageOf reply)
+      is-answer = reading-telegram reply (length room₂) answer (reply-read .0) .1
+
+      judged : replyRefusal desk₂ reply (length room₂) ≡ bookRefusal desk₂ answer
+      unfolding replyRefusal
+      judged = rw (no-fault, is-answer)
+
+      -- it fits the ticket that was opened
+      fits : ticketOn desk₂ address ≡ ticket → bookRefusal desk₂ answer ≡ none
+      unfolding bookRows IsNoTicket IsOtherModule IsOtherKind IsOtherRegister RegisterFits
+      fits on =
+          done-exactly (bookRows desk₂ answer) (bookRefusal desk₂ answer) (book-ranked desk₂ answer) .1 (
+            (λ none-open. none-open (rw on refl)),
+            (
+              (λ other. other (here ∙ rw on refl)),
+              ((λ unfit. unfit (rw on (answer-fits bench fields bytes))), ((λ unfit. unfit (inl (rw on refl))), tt)),
+            ),
+          )
+
+      -- "A request opened at the desk, taken by a bench at that module's address with room, gives a reply that the desk books on that very
+      -- ticket": while the ticket stands, whatever else was opened and closed since
+      pub booked-there : ticketOn desk₂ address ≡ ticket
+          → (b .answer ≡ Booked job address (deed .sort) (deed .size))
+          × ClosedAlone desk₂ address (b .desk)
+          × (room₂′ ≡ over (bytesOf (deed .size) (deed .value)) room₂)
+      booked-there on =
+          let none-of : replyRefusal desk₂ reply (length room₂) ≡ none = judged ∙ fits on in
+          let closing : b .desk ≡ closedOn desk₂ address = replies .1 ∙ rw (none-of, ← is-answer) in (
+            replies .0 ∙ rw (none-of, ← is-answer, on),
+            rw closing (closes-alone desk₂ address (rw on refl)),
+            replies .2 ∙ rw none-of (rw no-fault at (reply-read .1)),
+          )
+
+      -- "offered to a desk whose ticket on that address is another module's, it is 18", and nothing changes
+      pub crossed-refused : OpenOn desk₂ address → ticketOn desk₂ address .unit ≢ unit → (b .answer ≡ Refused OtherModule) × (b .desk ≡ desk₂) × (room₂′ ≡ room₂)
+      unfolding bookRows IsNoTicket IsOtherModule
+      crossed-refused live other =
+          let eighteen : replyRefusal desk₂ reply (length room₂) ≡ some OtherModule =
+          judged ∙ refused-exactly (bookRows desk₂ answer) (bookRefusal desk₂ answer) (book-ranked desk₂ answer) OtherModule .1
+          (inr ((λ shut. shut live), inl ((λ same. other (sym same ∙ here)), refl))) in
+          (replies .0 ∙ rw eighteen, replies .1 ∙ rw eighteen, replies .2 ∙ rw eighteen)
+
+      -- "for a read with the right the data are the register's bytes"
+      pub read-booked : ticketOn desk₂ address ≡ ticket → sort ≡ 4 → Held bench register → HasRight (named bench register) 1
+          → (b .answer ≡ Booked job address 8 (sizeOf (named bench register .kind)))
+          × ClosedAlone desk₂ address (b .desk)
+          × (room₂′ ≡ over (bytesOf (sizeOf (named bench register .kind)) (named bench register .value)) room₂)
+      read-booked on is held-there right = rw (datagram-of is held-there right) at (booked-there on)
+
+    -- and so at the desk that opened it, at once
+    pub end-to-end : (room₂ : List ℕ) → 8 ≤ length room₂ → (b : AfterReply) (room₂′ : List ℕ) → Replies (o .desk) reply room₂ b room₂′
+        → (b .answer ≡ Booked job address (deed .sort) (deed .size))
+        × ClosedAlone (o .desk) address (b .desk)
+        × (room₂′ ≡ over (bytesOf (deed .size) (deed .value)) room₂)
+    end-to-end room₂ enough b room₂′ replies = booked-there (o .desk) room₂ enough b room₂′ replies ticket-stands
