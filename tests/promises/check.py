@@ -186,6 +186,15 @@ def check_specs():
         fault("docs/DECISIONS.md", f"has two entries {number}")
 
 
+def check_sample():
+    """README's sample night is the stored one, whose answers tests/model/run looks at."""
+    rows = [cells for _, heading, cells in tables(names.read(names.ROOT / "README.md")) if heading == "Rehearse a night"]
+    for column, file in enumerate(("night.calls", "night.answers")):
+        stored = names.read(names.ROOT / "examples" / "rehearsal" / file).splitlines()
+        if [" ".join(spans(cells[column])) for cells in rows] != stored:
+            fault("README.md", f"the sample under \"Rehearse a night\" is not that of examples/rehearsal/{file}")
+
+
 # ---- the paper, where it is at hand
 
 
@@ -238,6 +247,7 @@ def main(words):
     calls = check_calls(text)
     edits = check_edits(text)
     check_specs()
+    check_sample()
     said = ""
     if words[:1] == ["--paper"] and len(words) == 2:
         said = f", {check_paper(text, names.pathlib.Path(words[1]))} sentences and cells of the paper"
