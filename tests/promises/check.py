@@ -5,6 +5,7 @@
     CRATE::NAME                  a public call         docs/DECISIONS: 7, 8     entries, or the words that one begins with
     tests/host/run               a file or folder, from the top or from crates/ on
 """
+import pathlib
 import re
 import sys
 
@@ -250,7 +251,7 @@ def main(words):
     check_sample()
     said = ""
     if words[:1] == ["--paper"] and len(words) == 2:
-        said = f", {check_paper(text, names.pathlib.Path(words[1]))} sentences and cells of the paper"
+        said = f", {check_paper(text, pathlib.Path(words[1]))} sentences and cells of the paper"
     elif words:
         print("usage: tests/promises/run [--paper FILE]", file=sys.stderr)
         return 2

@@ -2,6 +2,7 @@
 import functools
 import pathlib
 import re
+import sys
 
 ROOT = pathlib.Path(__file__).resolve().parents[2]
 CRATES = ROOT / "crates"
@@ -14,7 +15,10 @@ RATTLE = re.compile(r"^\s*(?:pub\s+)?(?:extern\s+\"C\"\s+)?(?:fn|const|static|st
 
 
 def read(path):
-    return path.read_text(encoding="utf-8")
+    try:
+        return path.read_text(encoding="utf-8")
+    except (OSError, UnicodeDecodeError) as problem:
+        sys.exit(f"promises: {path} cannot be read: {problem}")
 
 
 def listed():
