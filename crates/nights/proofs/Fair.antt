@@ -18,7 +18,7 @@ use Rattle.desk.specs.Open.{placeFrom, distanceOf, givenPlace, openRefusal, new
 use Rattle.desk.specs.Reply.{replyRefusal, bookDesk}
 use Rattle.frame.specs.Frame.{messageOf}
 use Rattle.telegram.specs.Read.{fieldsOf}
-use Rattle.desk.specs.declared.Ticket.{Ticket}
+use Rattle.waiting.specs.declared.Ticket.{Ticket}
 use Rattle.desk.specs.declared.Desk.{Desk}
 use Rattle.telegram.specs.declared.Fields.{Fields}
 use Rattle.desk.specs.declared.Fault.{Fault}
