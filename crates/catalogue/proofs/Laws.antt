@@ -13,7 +13,7 @@ use borrow.Author.Tests.{not-true, not-false}
 use lib.Dec.{T, leb, leb→le}
 use lib.ListN.{length, getD}
 use Rattle.rows.specs.Rows.{First, NoRow, Ranked}
-use Rattle.rows.proofs.Laws.{ranked, told-exactly, clash}
+use Rattle.rows.proofs.Laws.{Decides, ranked, _otherwise_, told-exactly, clash}
 use Rattle.values.specs.Values.{sizeOf, isSigned, isKind, greatest, fits, Holds}
 use Rattle.values.specs.declared.Value.the-variants.{Natural}
 use Rattle.values.proofs.Table.{at, every, both-left, both-right}
@@ -177,16 +177,17 @@ found-exactly model register e = (there (named model register table) refl, back)
 
 -- ---- 50: "Each is given exactly when its condition holds"
 
+decides-no-such : (model register : ℕ) → Decides (not (named model register table)) (NoSuch model register)
+unfolding NoSuch
+decides-no-such model register =
+    record {
+      so = λ e i h f. true≢false (sym (named-at model register table i h f) ∙ not-true _ e);
+      not-so = λ e n. let first = first-for model register table (not-false _ e) in n (first .0) (first .1) (first .2);
+    }
+
 pub find-ranked : (model register : ℕ) → Ranked (findRows model register) (findRefusal model register)
-unfolding findRows findRefusal NoSuch
-find-ranked model register =
-    ranked (findTests model register) (findRows model register) (
-      record {
-        so = λ e i h f. true≢false (sym (named-at model register table i h f) ∙ not-true _ e);
-        not-so = λ e n. let first = first-for model register table (not-false _ e) in n (first .0) (first .1) (first .2);
-      },
-      (refl, λ n₅₀. tt),
-    )
+unfolding findRows findRefusal
+find-ranked model register = ranked (findTests model register) (findRows model register) (decides-no-such model register otherwise λ n₅₀. tt)
 
 -- and so of the answer, both ways
 pub find-exactly : (model register : ℕ)

@@ -8,7 +8,7 @@ use Rattle.telegram.specs.declared.Fields.{Fields}
 use Rattle.desk.specs.Close.{closeAnswer}
 use Rattle.desk.specs.Open.{openAnswer}
 use Rattle.desk.specs.Reply.{bookAnswer}
-use Rattle.desk.specs.declared.Ticket.{Ticket}
+use Rattle.waiting.specs.declared.Ticket.{Ticket}
 use Rattle.desk.specs.declared.Fault.{Fault}
 use Rattle.desk.specs.declared.Opening.the-variants.{Opened}
 use Rattle.desk.specs.declared.Booking.the-variants.{Booked}

@@ -3,17 +3,17 @@
 use mathlib.Core.Path.{_≡_, refl, sym, ap, _∙_}
 use mathlib.Core.Bool.{Bool, true, false, cond, not, true≢false}
 use mathlib.Core.List.{List}
-use mathlib.Core.Logic.{_≢_, _⊎_, inl, inr, ⊎-elim}
+use mathlib.Core.Logic.{_≢_}
 use mathlib.Core.Option.{Option, some, none}
-use Prim.Native.Nat.{ℕ, _+_, _-_, _%_, _^_, _≤_, _<_}
+use Prim.Native.Nat.{ℕ, _+_, _-_, _≤_, _<_}
 use native.Mathlib.Omega.{arith}
-use native.Mathlib.Decide.{decLe}
 use borrow.Author.Tests.{leb-true, le-ltb, le-leb, lt-leb, eq-eqb, ne-eqb}
 use lib.Dec.{ltb, leb}
 use lib.ListN.{length}
 use Rattle.frame.specs.Frame.{messageOf}
-use Rattle.rows.proofs.Laws.{done-exactly}
-use Rattle.rows.specs.Rows.{firstOf}
+use Rattle.request.specs.Request.{askRefusal}
+use Rattle.request.specs.declared.Fault.{Fault as Asked}
+use Rattle.rows.specs.Rows.{raised}
 use Rattle.telegram.proofs.Judge.{reading-refused, reading-telegram}
 use Rattle.telegram.specs.Read.{readRefusal, fieldsOf, roomAfter, readFrame}
 use Rattle.telegram.specs.Write.{telegramFor, writeRefusal, writeAnswer, Writes}
@@ -28,17 +28,15 @@ use Rattle.telegram.specs.declared.Reading.the-variants.{Refused as Unreading}
 use Rattle.telegram.specs.declared.Writing.the-variants.{Refused as NotWritten}
 use Rattle.first.proofs.Laws.{first-none, first-at}
 use Rattle.first.specs.First.{firstPlace}
-use Rattle.desk.proofs.Ranking.{ask-ranked}
-use Rattle.desk.specs.Close.{cancelRefusal, age, duePlace, expireRefusal}
-use Rattle.desk.specs.Open.{IsNotAModule, IsNotARequest, IsWrongData, askRows, askRefusal, placeFrom, distanceOf, givenPlace, requestAt, openRefusal, withTicket, OpensAt, askAnswer, PlacesAt}
-use Rattle.desk.specs.Reply.{bookTests, booked, bookRefusal, replyRefusal}
+use Rattle.waiting.specs.Fit.{fitRefusal}
+use Rattle.waiting.specs.declared.Fault.{Fault as Unfit}
+use Rattle.desk.specs.Close.{cancelRefusal, duePlace, expireRefusal}
+use Rattle.desk.specs.Open.{placeFrom, distanceOf, givenPlace, requestAt, openRefusal, withTicket, OpensAt, PlacesAt}
+use Rattle.desk.specs.Reply.{bookRefusal, replyRefusal}
 use Rattle.desk.specs.Ticket.{noTicket, ticketAt, ticketOn}
-use Rattle.desk.specs.declared.Ticket.{Ticket}
+use Rattle.waiting.specs.declared.Ticket.{Ticket}
 use Rattle.desk.specs.declared.Desk.{Desk}
-use Rattle.desk.specs.declared.Fault.{Fault}
-use Rattle.desk.specs.declared.Fault.the-variants.{NoRoom, Unread, NoTicket, NotTheirs, NothingDue}
-use Rattle.desk.specs.declared.Asking.the-variants.{Allowed, Denied}
-use Rattle.desk.specs.declared.Judged.the-variants.{Fits, Misfit}
+use Rattle.desk.specs.declared.Fault.the-variants.{Denied, NoRoom, Unread, Misfit, NotTheirs, NothingDue}
 use Rattle.desk.specs.declared.Opening.the-variants.{Opened}
 use Rattle.desk.specs.declared.AfterOpen.{AfterOpen}
 use Rattle.desk.specs.declared.Opening.the-variants.{Refused}
@@ -53,11 +51,6 @@ live-host desk address e = go (leb 161 address) refl e
     go true p q = leb-true 161 address p
     go false p q = absurd (true≢false (sym q))
 
--- what wrapping subtraction gives is the age
-pub age-is : (clock opened r : ℕ) → (r + opened) % 2 ^ 32 ≡ clock → r < 2 ^ 32 → opened < 2 ^ 32 → r ≡ age clock opened
-unfolding age
-age-is clock opened r e hr ho = omega arith
-
 -- a search that has passed all 95 places
 pub end-none : (fits : ℕ → Bool) (k : ℕ) → k ≤ 95 → 95 ≤ k → ((i : ℕ) → i < k → fits i ≡ false) → k ≡ firstPlace fits 95
 end-none fits k below above before = let e : k ≡ 95 = omega arith in e ∙ sym (first-none fits 95 (rw e at before))
@@ -70,38 +63,8 @@ free-found desk k h before free = sym (first-at (λ i. not (ticketAt desk (place
 
 -- ---- opening
 
-pub asked-denied : (o : Option Fault) (f : Fault) → Denied f ≡ askAnswer o → o ≡ some f
-asked-denied none f e = cc
-asked-denied (some g) f e = cc
-
-pub asked-allowed : (o : Option Fault) → Allowed ≡ askAnswer o → o ≡ none
-asked-allowed none e = refl
-asked-allowed (some g) e = cc
-
--- a request that rows 10 to 14 let through is one that the writer takes
-pub allowed-writable : (job unit sort : ℕ) (bytes : List ℕ) (wait : ℕ) → askRefusal job unit sort bytes wait ≡ none
-    → (length bytes ≤ 240) × (unit ≢ 0) × (sort ≤ 9)
-unfolding askRows IsNotAModule IsNotARequest IsWrongData
-allowed-writable job unit sort bytes wait e =
-    let no = done-exactly (askRows job unit sort bytes wait) _ (ask-ranked job unit sort bytes wait) .0 e in (
-      ⊎-elim (λ h. h) (λ h. absurd (no .1 .1 .1 .0 (inl h))) (le-or-lt (length bytes) 240),
-      λ z. no .1 .0 (λ p. omega (arith, p .0)),
-      ⊎-elim (λ h. h) (λ h. absurd (no .1 .1 .0 (λ s. not-known sort h s))) (le-or-lt sort 9),
-    )
-  where
-    le-or-lt : (a b : ℕ) → (a ≤ b) ⊎ (b < a)
-    le-or-lt a b = by (decLe a b)
-      where
-        by : Dec (a ≤ b) → (a ≤ b) ⊎ (b < a)
-        by (yes h) = inl h
-        by (no h) = inr (omega arith)
-
-    not-known : (sort : ℕ) → 9 < sort → (sort ≡ 4) ⊎ ((sort ≡ 5) ⊎ ((sort ≡ 6) ⊎ ((sort ≡ 7) ⊎ (sort ≡ 9)))) → ⊥
-    not-known sort h =
-        ⊎-elim (λ e. omega arith) (⊎-elim (λ e. omega arith) (⊎-elim (λ e. omega arith) (⊎-elim (λ e. omega arith) (λ e. omega arith))))
-
-pub open-denied : (desk : Desk) (ticket : Ticket) (bytes : List ℕ) (room : ℕ) (f : Fault)
-    → askRefusal (ticket .job) (ticket .unit) (ticket .sort) bytes (ticket .wait) ≡ some f → openRefusal desk ticket bytes room ≡ some f
+pub open-denied : (desk : Desk) (ticket : Ticket) (bytes : List ℕ) (room : ℕ) (f : Asked)
+    → askRefusal (ticket .job) (ticket .unit) (ticket .sort) bytes (ticket .wait) ≡ some f → openRefusal desk ticket bytes room ≡ some (Denied f)
 unfolding openRefusal
 open-denied desk ticket bytes room f e = rw e
 
@@ -157,35 +120,19 @@ module _ (desk : Desk) (d : ℕ) (ticket : Ticket) (bytes room room′ : List �
 
 -- ---- a reply
 
-pub judged-misfit : (o : Option Fault) (f : Fault) → Misfit f ≡ booked o → o ≡ some f
-judged-misfit none f e = cc
-judged-misfit (some g) f e = cc
-
-pub judged-fits : (o : Option Fault) → Fits ≡ booked o → o ≡ none
-judged-fits none e = refl
-judged-fits (some g) e = cc
-
--- what fits a ticket fits one that is live
-pub fits-live : (ticket : Ticket) (t : Fields) → firstOf (bookTests ticket t) ≡ none → ticket .live ≡ true
-fits-live ticket t e = go (ticket .live) _ e
-  where
-    go : (live : Bool) (later : Option Fault) → cond (not live) (some NoTicket) later ≡ none → live ≡ true
-    go true later p = refl
-    go false later p = cc
-
 pub reply-unread : (desk : Desk) (frame : List ℕ) (room : ℕ) (reading : Reading) (f : Unreadable)
     → reading ≡ readFrame frame room → reading ≡ Unreading f → replyRefusal desk frame room ≡ some (Unread f)
 unfolding replyRefusal
 reply-unread desk frame room reading f p q = rw (reading-refused frame room f (sym p ∙ q))
 
 -- a telegram that was read is judged by its fields
-pub reply-judged : (desk : Desk) (frame : List ℕ) (room : ℕ) (reading : Reading) (t : Fields) (ticket : Ticket) (o : Option Fault)
-    → reading ≡ readFrame frame room → reading ≡ Telegram t → ticket ≡ ticketOn desk (t .destination) → firstOf (bookTests ticket t) ≡ o
-    → (readRefusal frame room ≡ none) × (t ≡ fieldsOf (messageOf frame)) × (replyRefusal desk frame room ≡ o)
+pub reply-judged : (desk : Desk) (frame : List ℕ) (room : ℕ) (reading : Reading) (t : Fields) (ticket : Ticket) (o : Option Unfit)
+    → reading ≡ readFrame frame room → reading ≡ Telegram t → ticket ≡ ticketOn desk (t .destination) → fitRefusal ticket t ≡ o
+    → (readRefusal frame room ≡ none) × (t ≡ fieldsOf (messageOf frame)) × (replyRefusal desk frame room ≡ raised Misfit o)
 unfolding replyRefusal bookRefusal
 reply-judged desk frame room reading t ticket o p q on e =
     let a = reading-telegram frame room t (sym p ∙ q) in
-    (a .0, a .1, rw (a .0, ← a .1, ← on) e)
+    (a .0, a .1, rw (a .0, ← a .1, ← on, e))
 
 -- ---- cancelling and expiring
 

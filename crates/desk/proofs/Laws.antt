@@ -16,8 +16,10 @@ use Rattle.frame.specs.Frame.{framed, opens, messageOf}
 use Rattle.lent.specs.Lent.{over}
 use Rattle.remainder.proofs.Laws.{burst-seen, nearby-burst}
 use Rattle.remainder.specs.Remainder.{remainderOf, combined, AlteredNearby}
-use Rattle.rows.proofs.Laws.{decides-eq, decides-and, decides-set, first-false, or-none, never-both}
-use Rattle.rows.specs.Rows.{firstOf}
+use Rattle.request.proofs.Laws.{allowed-writable}
+use Rattle.request.specs.Request.{askRefusal}
+use Rattle.rows.proofs.Laws.{decides-eq, decides-and, decides-set, first-false, or-none, raised-none}
+use Rattle.rows.specs.Rows.{firstOf, raised}
 use Rattle.telegram.proofs.Laws.{fieldsFor, reads-back, altered-refused}
 use Rattle.telegram.specs.Read.{readRefusal, fieldsOf, dataOf, readFrame, Reads}
 use Rattle.telegram.specs.Write.{writeRefusal}
@@ -27,17 +29,19 @@ use Rattle.telegram.specs.declared.Reading.{Reading}
 use Rattle.telegram.specs.declared.Reading.the-variants.{Telegram}
 use Rattle.telegram.specs.declared.Fault.{Fault as Unreadable}
 use Rattle.desk.proofs.Answers.{opened-told, open-refused, book-refused, closed-told, close-refused, booked-told}
-use Rattle.desk.proofs.Calls.{live-host, allowed-writable, only-room}
-use Rattle.desk.proofs.Ranking.{search-ended, decides-kind, decides-register, decides-due, due-ended}
-use Rattle.desk.specs.Close.{cancelRefusal, age, IsDue, Cancels, Expires, duePlace, expireRefusal}
-use Rattle.desk.specs.Open.{askRefusal, placeFrom, distanceOf, givenPlace, requestAt, placeTests, openRefusal, newTicket, withTicket, Asks, Opens}
-use Rattle.desk.specs.Reply.{KindFits, RegisterFits, bookRefusal, replyRefusal, Replies, kindFits, registerFits, unread}
+use Rattle.desk.proofs.Calls.{live-host, only-room}
+use Rattle.desk.proofs.Ranking.{search-ended, due-ended}
+use Rattle.waiting.proofs.Laws.{fitting, decides-due}
+use Rattle.waiting.specs.Due.{IsDue}
+use Rattle.waiting.specs.Fit.{KindFits, RegisterFits, fitRefusal}
+use Rattle.desk.specs.Close.{cancelRefusal, Cancels, Expires, duePlace, expireRefusal}
+use Rattle.desk.specs.Open.{placeFrom, distanceOf, givenPlace, requestAt, placeTests, openRefusal, newTicket, withTicket, Opens}
+use Rattle.desk.specs.Reply.{bookRefusal, replyRefusal, Replies}
 use Rattle.desk.specs.Ticket.{noTicket, ticketAt, ticketOn, OpenOn, closedOn, Fresh, Looks, Numbers}
-use Rattle.desk.specs.declared.Ticket.{Ticket}
+use Rattle.waiting.specs.declared.Ticket.{Ticket}
 use Rattle.desk.specs.declared.Desk.{Desk}
 use Rattle.desk.specs.declared.Fault.{Fault}
-use Rattle.desk.specs.declared.Fault.the-variants.{AllOpen, NoRoom, Unread, NotTheirs, NoTicket, OtherModule, OtherKind, OtherRegister, NothingDue}
-use Rattle.desk.specs.declared.Asking.{Asking}
+use Rattle.desk.specs.declared.Fault.the-variants.{Denied, AllOpen, NoRoom, Unread, Misfit, NotTheirs, NothingDue}
 use Rattle.desk.specs.declared.Opening.{Opening}
 use Rattle.desk.specs.declared.Opening.the-variants.{Opened}
 use Rattle.desk.specs.declared.Booking.{Booking}
@@ -89,10 +93,11 @@ pub fit-to-open : (desk : Desk) (ticket : Ticket) (bytes : List ℕ) (room : ℕ
 unfolding openRefusal
 fit-to-open desk ticket bytes room e =
     let request : List ℕ = requestAt (givenPlace desk) ticket bytes in
-    let a = or-none (askRefusal (ticket .job) (ticket .unit) (ticket .sort) bytes (ticket .wait)) (firstOf (placeTests (distanceOf desk) request room)) e in
+    let asked = askRefusal (ticket .job) (ticket .unit) (ticket .sort) bytes (ticket .wait) in
+    let a = or-none (raised Denied asked) (firstOf (placeTests (distanceOf desk) request room)) e in
     let b = first-false (leb 95 (distanceOf desk)) AllOpen _ (a .1) in
     let d = first-false (ltb room (length request)) NoRoom _ (b .1) in
-    (a .0, leb-false _ _ (b .0), ltb-false _ _ (d .0))
+    (raised-none Denied asked (a .0), leb-false _ _ (b .0), ltb-false _ _ (d .0))
 
 -- of what opening answers, by its contract
 module _ (desk : Desk) (job unit sort register : ℕ) (bytes : List ℕ) (wait clock : ℕ) (room : List ℕ) (r : AfterOpen) (room′ : List ℕ)
@@ -177,10 +182,6 @@ pub record Books (desk : Desk) (frame : List ℕ) (room : ℕ) (t : Fields) (job
   pub size-answered : n ≡ t .size
   pub closes : ClosedAlone desk address desk′
 
-unread-none : (o : Option Unreadable) → unread o ≡ none → o ≡ none
-unread-none none e = refl
-unread-none (some f) e = absurd (never-both (some (Unread f)) (Unread f) refl e)
-
 pub fit-to-book : (desk : Desk) (frame : List ℕ) (room : ℕ) → replyRefusal desk frame room ≡ none
     → (readRefusal frame room ≡ none)
     × OpenOn desk (fieldsOf (messageOf frame) .destination)
@@ -190,18 +191,9 @@ pub fit-to-book : (desk : Desk) (frame : List ℕ) (room : ℕ) → replyRefusal
 unfolding replyRefusal bookRefusal
 fit-to-book desk frame room e =
     let t : Fields = fieldsOf (messageOf frame) in
-    let ticket : Ticket = ticketOn desk (t .destination) in
-    let a = or-none (unread (readRefusal frame room)) (bookRefusal desk t) e in
-    let on = first-false (not (ticket .live)) NoTicket _ (a .1) in
-    let unit = first-false (not (eqb (t .source) (ticket .unit))) OtherModule _ (on .1) in
-    let kind = first-false (not (kindFits (ticket .sort) (t .sort))) OtherKind _ (unit .1) in
-    let register = first-false (not (registerFits (ticket .register) (t .sort) (t .register))) OtherRegister _ (kind .1) in (
-      unread-none (readRefusal frame room) (a .0),
-      not-false _ (on .0),
-      eqb-true _ _ (not-false _ (unit .0)),
-      decides-kind (ticket .sort) (t .sort) .so (not-false _ (kind .0)),
-      decides-register (ticket .register) (t .sort) (t .register) .so (not-false _ (register .0)),
-    )
+    let a = or-none (raised Unread (readRefusal frame room)) (bookRefusal desk t) e in
+    let fit = fitting (ticketOn desk (t .destination)) t (raised-none Misfit (fitRefusal (ticketOn desk (t .destination)) t) (a .1)) in
+    (raised-none Unread (readRefusal frame room) (a .0), fit .0, fit .1, fit .2, fit .3)
 
 module _ (desk : Desk) (frame room : List ℕ) (r : AfterReply) (room′ : List ℕ) (replies : Replies desk frame room r room′) where
   pub booked-right : (job address sort n : ℕ) → r .answer ≡ Booked job address sort n
@@ -310,26 +302,6 @@ cancel-refusal-keeps desk job address r f c e = let o = close-refused (cancelRef
 pub expire-refusal-keeps : (desk : Desk) (clock : ℕ) (r : AfterClose) (f : Fault) → Expires desk clock r → r .answer ≡ NotClosed f → r .desk ≡ desk
 expire-refusal-keeps desk clock r f x e = let o = close-refused (expireRefusal desk clock) _ _ f (sym e ∙ x .0) in x .1 ∙ rw o
 
--- ---- 01: "A ticket's age is the clock minus its opening, reduced modulo 4294967296 [..]. A clock set back past a ticket's opening can
--- therefore make it due."
-
-pub age-after : (clock opened : ℕ) → clock < 2 ^ 32 → opened ≤ clock → age clock opened ≡ clock - opened
-unfolding age
-age-after clock opened hc h = omega arith
-
-pub age-set-back : (clock opened : ℕ) → opened < 2 ^ 32 → clock < opened → age clock opened ≡ 2 ^ 32 - (opened - clock)
-unfolding age
-age-set-back clock opened ho h = omega arith
-
-pub set-back-due : (clock : ℕ) (ticket : Ticket) → ticket .live ≡ true → ticket .opened < 2 ^ 32 → clock < ticket .opened
-    → ticket .opened - clock + ticket .wait ≤ 2 ^ 32 → IsDue clock ticket
-set-back-due clock ticket live ho h far = (live, omega (arith, age-set-back clock (ticket .opened) ho h))
-
--- T11: "opened 4294967290, wait 100: not due at 93, due at 94"
-pub clock-wraps : (ticket : Ticket) → ticket .live ≡ true → ticket .opened ≡ 4294967290 → ticket .wait ≡ 100 → (IsDue 93 ticket → ⊥) × IsDue 94 ticket
-clock-wraps ticket live opened wait =
-    (λ due. omega (arith, due .1, age-set-back 93 (ticket .opened) (omega arith) (omega arith)), set-back-due 94 ticket live (omega arith) (omega arith) (omega arith))
-
 -- ---- 01: "Show that any two outcomes allowed by it are equal."
 
 pub fresh-once : {a b : Desk} → Fresh a → Fresh b → a ≡ b
@@ -340,9 +312,6 @@ numbers-once f p q = p ∙ sym q
 
 pub looks-once : (desk : Desk) (address : ℕ) {a b : Seen} → Looks desk address a → Looks desk address b → a ≡ b
 looks-once desk address p q = p ∙ sym q
-
-pub asks-once : (job unit sort : ℕ) (bytes : List ℕ) (wait : ℕ) {a b : Asking} → Asks job unit sort bytes wait a → Asks job unit sort bytes wait b → a ≡ b
-asks-once job unit sort bytes wait p q = p ∙ sym q
 
 pub opens-once : (desk : Desk) (job unit sort register : ℕ) (bytes : List ℕ) (wait clock : ℕ) (room : List ℕ) {a b : AfterOpen} {x y : List ℕ}
     → Opens desk job unit sort register bytes wait clock room a x → Opens desk job unit sort register bytes wait clock room b y → (a ≡ b) × (x ≡ y)

@@ -1,61 +1,32 @@
 -- Rows 10 to 22 are tested as 01 words them, in the order of each call: what a call refuses is what its rows give.
 -- Assumes nothing.
-use mathlib.Core.Path.{_≡_, refl, sym, ap, _∙_}
+use mathlib.Core.Path.{_≡_, sym, ap, _∙_}
 use mathlib.Core.Bool.{true, false, not, true≢false}
-use mathlib.Core.List.{List, [], _∷_}
-use mathlib.Core.Logic.{_⊎_, inl, inr, ⊎-elim}
-use mathlib.Core.Option.{Option, some, none}
-use Prim.Native.Nat.{ℕ, zero, suc, _+_, _-_, _%_, _≤_, _<_}
+use mathlib.Core.List.{List}
+use Prim.Native.Nat.{ℕ, _+_, _-_, _%_, _<_}
 use native.Mathlib.Omega.{arith}
 use borrow.Author.Tests.{leb-true, leb-false, not-true, not-false}
 use lib.Dec.{leb}
 use lib.ListN.{length}
 use Rattle.first.proofs.Laws.{Ended, ended}
 use Rattle.frame.specs.Frame.{messageOf}
-use Rattle.rows.proofs.Laws.{Decides, decides-lt, decides-le, decides-eq, decides-not, decides-or, decides-and, decides-if, decides-set, decides-as, ranked, ranked-append}
-use Rattle.rows.specs.Rows.{Row, Ranked, firstOf}
+use Rattle.request.proofs.Laws.{ask-ranked}
+use Rattle.request.specs.Request.{askRows, askRefusal}
+use Rattle.rows.proofs.Laws.{Decides, decides-lt, decides-eq, decides-not, decides-and, decides-set, ranked, _otherwise_, ranked-append, ranked-up}
+use Rattle.rows.specs.Rows.{Ranked, firstOf, passedUp, raised}
 use Rattle.telegram.proofs.Ranking.{read-ranked}
 use Rattle.telegram.specs.Read.{readRows, readRefusal, fieldsOf}
-use Rattle.telegram.specs.declared.Fault.{Fault as Unreadable}
 use Rattle.telegram.specs.declared.Fields.{Fields}
-use Rattle.desk.specs.Close.{IsNotTheirs, cancelRows, cancelRefusal, age, IsDue, isDue, IsNothingDue, expireRows, duePlace, expireRefusal, cancelTests, expireTests}
-use Rattle.desk.specs.Open.{IsNoJob, IsNotAModule, IsNotARequest, IsWrongData, IsWrongWait, askRows, oneTo, askTests, askRefusal, placeFrom, distanceOf, givenPlace, requestAt, IsAllOpen, IsNoRoom, placeRows, placeTests, openRefusal, openRows}
-use Rattle.desk.specs.Reply.{KindFits, RegisterFits, IsNoTicket, IsOtherModule, IsOtherKind, IsOtherRegister, bookRows, passedUp, replyRows, kindFits, bookTests, bookRefusal, unread, replyRefusal, registerFits}
+use Rattle.waiting.proofs.Laws.{fit-ranked, decides-due}
+use Rattle.waiting.specs.Due.{IsDue, isDue}
+use Rattle.waiting.specs.Fit.{fitRows, fitRefusal}
+use Rattle.waiting.specs.declared.Ticket.{Ticket}
+use Rattle.desk.specs.Close.{IsNotTheirs, cancelRows, cancelRefusal, IsNothingDue, expireRows, duePlace, expireRefusal, cancelTests, expireTests}
+use Rattle.desk.specs.Open.{placeFrom, distanceOf, givenPlace, requestAt, IsAllOpen, IsNoRoom, placeRows, placeTests, openRefusal, openRows}
+use Rattle.desk.specs.Reply.{bookRows, replyRows, bookRefusal, replyRefusal}
 use Rattle.desk.specs.Ticket.{ticketAt, ticketOn}
-use Rattle.desk.specs.declared.Ticket.{Ticket}
 use Rattle.desk.specs.declared.Desk.{Desk}
-use Rattle.desk.specs.declared.Fault.the-variants.{Unread}
-
--- ---- 10 to 14
-
-pub ask-ranked : (job unit sort : ℕ) (bytes : List ℕ) (wait : ℕ) → Ranked (askRows job unit sort bytes wait) (askRefusal job unit sort bytes wait)
-unfolding askRows askRefusal IsNoJob IsNotAModule IsNotARequest IsWrongData IsWrongWait
-ask-ranked job unit sort bytes wait =
-    ranked (askTests job unit sort bytes wait) (askRows job unit sort bytes wait) (
-      decides-eq job 0,
-      (
-        refl,
-        λ n₁₀. (
-          decides-not (one-to 160 unit),
-          (
-            refl,
-            λ n₁₁. (
-              decides-not (decides-or (decides-eq sort 4) (decides-or (decides-eq sort 5) (decides-or (decides-eq sort 6) (decides-or (decides-eq sort 7) (decides-eq sort 9))))),
-              (
-                refl,
-                λ n₁₂. (
-                  decides-or (decides-lt 240 (length bytes)) (decides-and (decides-eq sort 4) (decides-lt 0 (length bytes))),
-                  (refl, λ n₁₃. (decides-not (one-to 60000 wait), (refl, λ n₁₄. tt))),
-                ),
-              ),
-            ),
-          ),
-        ),
-      ),
-    )
-  where
-    one-to : (most x : ℕ) → Decides (oneTo most x) ((1 ≤ x) × (x ≤ most))
-    one-to most x = decides-and (decides-le 1 x) (decides-le x most)
+use Rattle.desk.specs.declared.Fault.the-variants.{Denied, Unread, Misfit}
 
 -- ---- 15 and 16
 
@@ -86,75 +57,30 @@ decides-all-open desk = record { so = all; not-so = some-free }
 pub open-ranked : (desk : Desk) (ticket : Ticket) (bytes : List ℕ) (room : ℕ) → Ranked (openRows desk ticket bytes room) (openRefusal desk ticket bytes room)
 unfolding openRows openRefusal placeRows IsNoRoom
 open-ranked desk ticket bytes room =
-    ranked-append (askRows (ticket .job) (ticket .unit) (ticket .sort) bytes (ticket .wait)) (placeRows desk request room)
-    (askRefusal (ticket .job) (ticket .unit) (ticket .sort) bytes (ticket .wait)) (firstOf (placeTests (distanceOf desk) request room))
-    (ask-ranked (ticket .job) (ticket .unit) (ticket .sort) bytes (ticket .wait))
+    ranked-append (passedUp Denied (askRows (ticket .job) (ticket .unit) (ticket .sort) bytes (ticket .wait))) (placeRows desk request room)
+    (raised Denied (askRefusal (ticket .job) (ticket .unit) (ticket .sort) bytes (ticket .wait))) (firstOf (placeTests (distanceOf desk) request room))
+    (ranked-up Denied (askRows (ticket .job) (ticket .unit) (ticket .sort) bytes (ticket .wait))
+    (askRefusal (ticket .job) (ticket .unit) (ticket .sort) bytes (ticket .wait))
+    (ask-ranked (ticket .job) (ticket .unit) (ticket .sort) bytes (ticket .wait)))
     (λ n. ranked (placeTests (distanceOf desk) request room) (placeRows desk request room)
-    (decides-all-open desk, (refl, λ n₁₅. (decides-lt room (length request), (refl, λ n₁₆. tt)))))
+    (decides-all-open desk otherwise λ n₁₅.
+    decides-lt room (length request) otherwise λ n₁₆. tt))
   where
     request : List ℕ
     request = requestAt (givenPlace desk) ticket bytes
 
 -- ---- 17 to 20
 
-to-two : (n : ℕ) → n ≤ 2 → (n ≡ 0) ⊎ ((n ≡ 1) ⊎ (n ≡ 2))
-to-two zero h = inl refl
-to-two (suc zero) h = inr (inl refl)
-to-two (suc (suc zero)) h = inr (inr refl)
-to-two (suc (suc (suc n))) h = absurd (omega arith)
-
-pub decides-kind : (asked answered : ℕ) → Decides (kindFits asked answered) (KindFits asked answered)
-unfolding KindFits
-decides-kind asked answered =
-    decides-as (decides-or (decides-le answered 2) (decides-if (decides-eq asked 4) (decides-eq answered 8) (decides-eq answered 3)))
-    (⊎-elim (λ a. inr (inr (to-two answered a))) (⊎-elim (λ a. inl a) (λ a. inr (inl a))))
-    (⊎-elim (λ a. inr (inl a)) (⊎-elim (λ a. inr (inr a)) (λ a. inl (⊎-elim (λ e. omega arith) (⊎-elim (λ e. omega arith) (λ e. omega arith)) a))))
-
-pub decides-register : (asked answered register : ℕ) → Decides (registerFits asked answered register) (RegisterFits asked answered register)
-unfolding RegisterFits
-decides-register asked answered register = decides-or (decides-eq register asked) (decides-and (decides-le answered 3) (decides-eq register 0))
-
 pub book-ranked : (desk : Desk) (t : Fields) → Ranked (bookRows desk t) (bookRefusal desk t)
-unfolding bookRows bookRefusal IsNoTicket IsOtherModule IsOtherKind IsOtherRegister
+unfolding bookRows bookRefusal
 book-ranked desk t =
-    ranked (bookTests ticket t) (bookRows desk t) (
-      decides-not (decides-set (ticket .live)),
-      (
-        refl,
-        λ n₁₇. (
-          decides-not (decides-eq (t .source) (ticket .unit)),
-          (
-            refl,
-            λ n₁₈. (
-              decides-not (decides-kind (ticket .sort) (t .sort)),
-              (
-                refl,
-                λ n₁₉. (
-                  decides-not (decides-register (ticket .register) (t .sort) (t .register)),
-                  (refl, λ n₂₀. tt),
-                ),
-              ),
-            ),
-          ),
-        ),
-      ),
-    )
-  where
-    ticket : Ticket
-    ticket = ticketOn desk (t .destination)
-
--- the reader's rows hold as they are
-passed-up : (rs : List (Row Unreadable)) (o : Option Unreadable) → Ranked rs o → Ranked (passedUp rs) (unread o)
-passed-up [] none p = tt
-passed-up [] (some f) p = absurd p
-passed-up (r ∷ rs) none p = (p .0, passed-up rs none (p .1))
-passed-up (r ∷ rs) (some f) p = ⊎-elim (λ a. inl (a .0, ap Unread (a .1))) (λ a. inr (a .0, passed-up rs (some f) (a .1))) p
+    ranked-up Misfit (fitRows (ticketOn desk (t .destination)) t) (fitRefusal (ticketOn desk (t .destination)) t) (fit-ranked (ticketOn desk (t .destination)) t)
 
 pub reply-ranked : (desk : Desk) (frame : List ℕ) (room : ℕ) → Ranked (replyRows desk frame room) (replyRefusal desk frame room)
 unfolding replyRows replyRefusal
 reply-ranked desk frame room =
-    ranked-append (passedUp (readRows frame room)) (bookRows desk (fieldsOf (messageOf frame))) (unread (readRefusal frame room))
-    (bookRefusal desk (fieldsOf (messageOf frame))) (passed-up (readRows frame room) (readRefusal frame room) (read-ranked frame room))
+    ranked-append (passedUp Unread (readRows frame room)) (bookRows desk (fieldsOf (messageOf frame))) (raised Unread (readRefusal frame room))
+    (bookRefusal desk (fieldsOf (messageOf frame))) (ranked-up Unread (readRows frame room) (readRefusal frame room) (read-ranked frame room))
     (λ n. book-ranked desk (fieldsOf (messageOf frame)))
 
 -- ---- 21 and 22
@@ -163,10 +89,7 @@ pub cancel-ranked : (desk : Desk) (job address : ℕ) → Ranked (cancelRows des
 unfolding cancelRows cancelRefusal IsNotTheirs
 cancel-ranked desk job address =
     ranked (cancelTests (ticketOn desk address) job) (cancelRows desk job address)
-    (decides-not (decides-and (decides-set (ticketOn desk address .live)) (decides-eq (ticketOn desk address .job) job)), (refl, λ n₂₁. tt))
-
-pub decides-due : (clock : ℕ) (ticket : Ticket) → Decides (isDue clock ticket) (IsDue clock ticket)
-decides-due clock ticket = decides-and (decides-set (ticket .live)) (decides-le (ticket .wait) (age clock (ticket .opened)))
+    (decides-not (decides-and (decides-set (ticketOn desk address .live)) (decides-eq (ticketOn desk address .job) job)) otherwise λ n₂₁. tt)
 
 -- where the search for a due ticket has ended
 pub due-ended : (desk : Desk) (clock : ℕ) → Ended (λ k. isDue clock (ticketAt desk k)) 95 (duePlace desk clock)
@@ -187,4 +110,4 @@ decides-nothing-due desk clock = record { so = nothing; not-so = some-due }
 
 pub expire-ranked : (desk : Desk) (clock : ℕ) → Ranked (expireRows desk clock) (expireRefusal desk clock)
 unfolding expireRows expireRefusal
-expire-ranked desk clock = ranked (expireTests (duePlace desk clock)) (expireRows desk clock) (decides-nothing-due desk clock, (refl, λ n₂₂. tt))
+expire-ranked desk clock = ranked (expireTests (duePlace desk clock)) (expireRows desk clock) (decides-nothing-due desk clock otherwise λ n₂₂. tt)

@@ -1,15 +1,16 @@
 -- Cancelling and expiring: rows 21 and 22.
 -- Assumes nothing.
 use mathlib.Core.Path.{_≡_}
-use mathlib.Core.Bool.{Bool, true, not, _&&_}
+use mathlib.Core.Bool.{not, _&&_}
 use mathlib.Core.List.{List, [], _∷_}
 use mathlib.Core.Option.{Option, some, none}
-use Prim.Native.Nat.{ℕ, _+_, _-_, _%_, _^_, _≤_, _<_}
+use Prim.Native.Nat.{ℕ, _+_, _<_}
 use lib.Dec.{eqb, leb}
 use Rattle.rows.specs.Rows.{Row, row, test, firstOf, Test}
 use Rattle.first.specs.First.{firstPlace}
 use Rattle.desk.specs.Ticket.{ticketAt, ticketOn, OpenOn, closedOn}
-use Rattle.desk.specs.declared.Ticket.{Ticket}
+use Rattle.waiting.specs.Due.{IsDue, isDue}
+use Rattle.waiting.specs.declared.Ticket.{Ticket}
 use Rattle.desk.specs.declared.Desk.{Desk}
 use Rattle.desk.specs.declared.Fault.{Fault}
 use Rattle.desk.specs.declared.Fault.the-variants.{NotTheirs, NothingDue}
@@ -33,17 +34,6 @@ unfoldable pub cancelRefusal : Desk → ℕ → ℕ → Option Fault
 cancelRefusal desk job address = firstOf (cancelTests (ticketOn desk address) job)
 
 -- ---- "Expire closes one ticket, the due one with the lowest address"
-
--- "A ticket's age is the clock minus its opening, reduced modulo 4294967296"
-unfoldable pub age : ℕ → ℕ → ℕ
-age clock opened = (clock + 2 ^ 32 - opened) % 2 ^ 32
-
--- "and it is due when the age is at least its waiting time"
-abbrev pub IsDue : ℕ → Ticket → Type 0
-IsDue clock ticket = (ticket .live ≡ true) × (ticket .wait ≤ age clock (ticket .opened))
-
-abbrev pub isDue : ℕ → Ticket → Bool
-isDue clock ticket = ticket .live && leb (ticket .wait) (age clock (ticket .opened))
 
 -- 22: "nothing due"
 unfoldable pub IsNothingDue : Desk → ℕ → Type 0

@@ -5,11 +5,13 @@ use mathlib.Core.Bool.{Bool, false, true, cond}
 use Prim.Native.Nat.{ℕ, _-_}
 use lib.Dec.{leb}
 use lib.ListN.{getD, replicate, set}
+use Rattle.request.specs.Request.{faultNumber as askNumber}
 use Rattle.telegram.specs.Read.{faultNumber as readNumber}
-use Rattle.desk.specs.declared.Ticket.{Ticket}
+use Rattle.waiting.specs.Fit.{faultNumber as fitNumber}
+use Rattle.waiting.specs.declared.Ticket.{Ticket}
 use Rattle.desk.specs.declared.Desk.{Desk}
 use Rattle.desk.specs.declared.Fault.{Fault}
-use Rattle.desk.specs.declared.Fault.the-variants.{NoJob, NotAModule, NotARequest, WrongData, WrongWait, AllOpen, NoRoom, Unread, NoTicket, OtherModule, OtherKind, OtherRegister, NotTheirs, NothingDue}
+use Rattle.desk.specs.declared.Fault.the-variants.{Denied, AllOpen, NoRoom, Unread, Misfit, NotTheirs, NothingDue}
 use Rattle.desk.specs.declared.Seen.{Seen}
 use Rattle.desk.specs.declared.Seen.the-variants.{Open, Nothing}
 
@@ -37,20 +39,13 @@ OpenOn desk address = ticketOn desk address .live ≡ true
 abbrev pub closedOn : Desk → ℕ → Desk
 closedOn desk address = record { turn = desk .turn; tickets = set (desk .tickets) (address - 161) noTicket }
 
--- the paper's number of each refusal; a telegram that could not be read has its own
+-- the paper's number of each refusal; 10 to 14, 17 to 20 and the reader's are told where they are judged
 abbrev pub faultNumber : Fault → ℕ
-faultNumber NoJob = 10
-faultNumber NotAModule = 11
-faultNumber NotARequest = 12
-faultNumber WrongData = 13
-faultNumber WrongWait = 14
+faultNumber (Denied f) = askNumber f
 faultNumber AllOpen = 15
 faultNumber NoRoom = 16
 faultNumber (Unread f) = readNumber f
-faultNumber NoTicket = 17
-faultNumber OtherModule = 18
-faultNumber OtherKind = 19
-faultNumber OtherRegister = 20
+faultNumber (Misfit f) = fitNumber f
 faultNumber NotTheirs = 21
 faultNumber NothingDue = 22
 

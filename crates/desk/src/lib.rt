@@ -1,27 +1,14 @@
 // The ticket desk: each request goes out under a host address of its own, and each reply is booked
 // on the one ticket that is open on its address, or refused. specs/ says what each call answers.
+pub use waiting::Ticket;
 ghost use Rattle.desk.specs.Ticket.{Fresh, Looks, Numbers, ticketOn, closedOn};
-ghost use Rattle.desk.specs.Open.{Asks, Opens, PlacesAt, oneTo, isRequest, isWrongData, distanceOf, withTicket};
-ghost use Rattle.desk.specs.Reply.{Replies, bookTests, booked, kindFits, registerFits};
-ghost use Rattle.desk.specs.Close.{Cancels, Expires, Withdraws, isDue, duePlace};
-ghost use Rattle.rows.specs.Rows.{firstOf};
+ghost use Rattle.desk.specs.Open.{Opens, PlacesAt, distanceOf, withTicket};
+ghost use Rattle.desk.specs.Reply.{Replies};
+ghost use Rattle.desk.specs.Close.{Cancels, Expires, Withdraws, duePlace};
 ghost use mathlib.Core.Path.{_≡_};
 ghost use mathlib.Core.Logic.{_≢_};
 ghost use Prim.Native.Nat.{_≤_, _<_};
 ghost use lib.ListN.{length};
-
-// One request that waits for its reply. It is live while it is open; one that is not is all zeros.
-pub struct Ticket {
-    pub live: bool,
-    pub job: u32,
-    // the module that was asked, and the type and register of the request
-    pub unit: u8,
-    pub sort: u8,
-    pub register: u8,
-    // how long it waits, in milliseconds, and the clock when it was opened
-    pub wait: u32,
-    pub opened: u32,
-}
 
 // A ticket for each host address, 161 to 255, at the place that is the address less 161. The turn
 // is such a place too.
@@ -32,33 +19,16 @@ pub struct Desk {
 
 // Why the desk refused.
 pub enum Fault {
-    NoJob,
-    NotAModule,
-    NotARequest,
-    WrongData,
-    WrongWait,
+    // what is asked may not be sent
+    Denied(request::Fault),
     AllOpen,
     NoRoom,
     // the reply could not be read as a telegram
     Unread(telegram::Fault),
-    NoTicket,
-    OtherModule,
-    OtherKind,
-    OtherRegister,
+    // the reply does not fit what is open on its destination
+    Misfit(waiting::Fault),
     NotTheirs,
     NothingDue,
-}
-
-// What rows 10 to 14 say of a request, before any address is looked for.
-pub enum Asking {
-    Allowed,
-    Denied(Fault),
-}
-
-// What rows 17 to 20 say of a reply, before anything is changed.
-enum Judged {
-    Fits,
-    Misfit(Fault),
 }
 
 pub enum Opening {
@@ -125,18 +95,11 @@ pub fn number(fault: Fault) -> u8
     ensures { λ r. ⌜ Numbers fault r ⌝ }
 {
     match fault {
-        Fault::NoJob => 10,
-        Fault::NotAModule => 11,
-        Fault::NotARequest => 12,
-        Fault::WrongData => 13,
-        Fault::WrongWait => 14,
+        Fault::Denied(denied) => request::number(denied),
         Fault::AllOpen => 15,
         Fault::NoRoom => 16,
         Fault::Unread(unread) => telegram::number(unread),
-        Fault::NoTicket => 17,
-        Fault::OtherModule => 18,
-        Fault::OtherKind => 19,
-        Fault::OtherRegister => 20,
+        Fault::Misfit(misfit) => waiting::number(misfit),
         Fault::NotTheirs => 21,
         Fault::NothingDue => 22,
     }
@@ -151,68 +114,6 @@ pub fn look(desk: Desk, address: u8) -> Seen
         return Seen::Open(ticket);
     }
     Seen::Nothing
-}
-
-// Rows 10 to 14: what can be said of a request before any address is looked for.
-pub fn judge_request(job: u32, unit: u8, sort: u8, data: &[u8], wait: u32) -> Asking
-    ensures { λ r. ⌜ Asks job unit sort (now («data» .entry)) wait r ⌝ }
-{
-    if job == 0 {
-        return Asking::Denied(Fault::NoJob);
-    }
-    if one_to(160, unit as u32) {} else {
-        return Asking::Denied(Fault::NotAModule);
-    }
-    if is_request(sort) {} else {
-        return Asking::Denied(Fault::NotARequest);
-    }
-    if wrong_data(sort, data.len()) {
-        return Asking::Denied(Fault::WrongData);
-    }
-    if one_to(60000, wait) {
-        return Asking::Allowed;
-    }
-    Asking::Denied(Fault::WrongWait)
-}
-
-// Whether x is 1 to `most`.
-fn one_to(most: u32, x: u32) -> bool
-    ensures { λ r. ⌜ r ≡ oneTo most x ⌝ }
-{
-    if 1 <= x {
-        return x <= most;
-    }
-    false
-}
-
-fn is_request(sort: u8) -> bool
-    ensures { λ r. ⌜ r ≡ isRequest sort ⌝ }
-{
-    if sort == 4 {
-        return true;
-    }
-    if sort == 5 {
-        return true;
-    }
-    if sort == 6 {
-        return true;
-    }
-    if sort == 7 {
-        return true;
-    }
-    sort == 9
-}
-
-fn wrong_data(sort: u8, size: usize) -> bool
-    ensures { λ r. ⌜ r ≡ isWrongData sort size ⌝ }
-{
-    if 240 < size {
-        return true;
-    }
-    if sort == 4 {
-        return 0 < size;
-    }
-    false
 }
 
 // Opens a ticket and writes its request telegram into the room's first bytes. A refusal leaves the
@@ -230,12 +131,12 @@ pub fn open(
 ) -> AfterOpen
     ensures { λ r. ⌜ Opens desk job unit sort register (now («data» .entry)) wait clock (now (room .entry)) r (now (room .exit)) ⌝ }
 {
-    match judge_request(job, unit, sort, data, wait) {
-        Asking::Denied(fault) => AfterOpen {
+    match request::judge(job, unit, sort, data, wait) {
+        request::Asking::Denied(fault) => AfterOpen {
             desk,
-            answer: Opening::Refused(fault),
+            answer: Opening::Refused(Fault::Denied(fault)),
         },
-        Asking::Allowed => open_at(
+        request::Asking::Allowed => open_at(
             desk,
             free_distance(desk),
             Ticket {
@@ -298,12 +199,12 @@ pub fn reply(desk: Desk, frame: &[u8], room: &mut [u8]) -> AfterReply
         };
     };
     let ticket = ticket_on(desk, t.destination);
-    match judge_reply(ticket, t) {
-        Judged::Misfit(fault) => AfterReply {
+    match waiting::judge(ticket, t) {
+        waiting::Judged::Misfit(fault) => AfterReply {
             desk,
-            answer: Booking::Refused(fault),
+            answer: Booking::Refused(Fault::Misfit(fault)),
         },
-        Judged::Fits => {
+        waiting::Judged::Fits => {
             telegram::read(frame, room);
             AfterReply {
                 desk: closed_on(desk, t.destination),
@@ -311,51 +212,6 @@ pub fn reply(desk: Desk, frame: &[u8], room: &mut [u8]) -> AfterReply
             }
         }
     }
-}
-
-// Rows 17 to 20, of what a telegram says and the ticket on its destination.
-fn judge_reply(ticket: Ticket, t: telegram::Fields) -> Judged
-    ensures { λ r. ⌜ r ≡ booked (firstOf (bookTests ticket t)) ⌝ }
-{
-    if ticket.live {} else {
-        return Judged::Misfit(Fault::NoTicket);
-    }
-    let source = t.source;
-    let unit = ticket.unit;
-    if source != unit {
-        return Judged::Misfit(Fault::OtherModule);
-    }
-    if kind_fits(ticket.sort, t.sort) {} else {
-        return Judged::Misfit(Fault::OtherKind);
-    }
-    if register_fits(ticket.register, t.sort, t.register) {
-        return Judged::Fits;
-    }
-    Judged::Misfit(Fault::OtherRegister)
-}
-
-fn kind_fits(asked: u8, answered: u8) -> bool
-    ensures { λ r. ⌜ r ≡ kindFits asked answered ⌝ }
-{
-    if answered <= 2 {
-        return true;
-    }
-    if asked == 4 {
-        return answered == 8;
-    }
-    answered == 3
-}
-
-fn register_fits(asked: u8, answered: u8, register: u8) -> bool
-    ensures { λ r. ⌜ r ≡ registerFits asked answered register ⌝ }
-{
-    if register == asked {
-        return true;
-    }
-    if answered <= 3 {
-        return register == 0;
-    }
-    false
 }
 
 // Closes the ticket that is open on the address for that job.
@@ -400,16 +256,6 @@ fn withdraw(desk: Desk, address: u8) -> AfterClose
     }
 }
 
-fn is_due(ticket: Ticket, clock: u32) -> bool
-    ensures { λ r. ⌜ r ≡ isDue clock ticket ⌝ }
-{
-    if ticket.live {
-        let age = std::num::wrapping_sub_u32(clock, ticket.opened);
-        return ticket.wait <= age;
-    }
-    false
-}
-
 // What follows alone reads or stores in the array of tickets.
 
 // What stands on an address; under 161 there is no ticket.
@@ -447,7 +293,7 @@ fn due_place(desk: Desk, clock: u32) -> u8
     let mut k: u8 = 0;
     while k < 95 {
         let place = k as usize;
-        if is_due(desk.tickets[place], clock) {
+        if waiting::is_due(desk.tickets[place], clock) {
             return k;
         }
         k += 1;

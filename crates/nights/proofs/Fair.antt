@@ -18,7 +18,7 @@ use Rattle.desk.specs.Open.{placeFrom, distanceOf, givenPlace, openRefusal, new
 use Rattle.desk.specs.Reply.{replyRefusal, bookDesk}
 use Rattle.frame.specs.Frame.{messageOf}
 use Rattle.telegram.specs.Read.{fieldsOf}
-use Rattle.desk.specs.declared.Ticket.{Ticket}
+use Rattle.waiting.specs.declared.Ticket.{Ticket}
 use Rattle.desk.specs.declared.Desk.{Desk}
 use Rattle.telegram.specs.declared.Fields.{Fields}
 use Rattle.desk.specs.declared.Fault.{Fault}
@@ -43,10 +43,10 @@ swept desk call k g h near = go (eqb k (distanceOf desk)) refl
         inr (g, (k, under, refl), not-false _ (search-ended desk .before k under))
 
 -- an opening that is not refused: where it gives, and the turn after it
-record Sweep (desk : Desk) (call : Call) : Type 0 where
-  gives : Gives desk call (givenPlace desk)
-  near : distanceOf desk < 95
-  turn-after : after desk call .turn ≡ (givenPlace desk + 1) % 95
+pub record Sweep (desk : Desk) (call : Call) : Type 0 where
+  pub gives : Gives desk call (givenPlace desk)
+  pub near : distanceOf desk < 95
+  pub turn-after : after desk call .turn ≡ (givenPlace desk + 1) % 95
 
 closing-stays : (o : Option Fault) (desk : Desk) (address : ℕ) → closeDesk o desk address .turn ≡ desk .turn
 closing-stays none desk address = refl
@@ -73,7 +73,7 @@ opens-or-stays desk (brings frame room) = inr (booking-stays (replyRefusal desk 
 opens-or-stays desk (cancels job address) = inr (closing-stays (cancelRefusal desk job address) desk address)
 opens-or-stays desk (expires clock) = inr (closing-stays (expireRefusal desk clock) desk (161 + duePlace desk clock))
 
-gives-opening : (desk : Desk) (call : Call) (place : ℕ) → Gives desk call place → Sweep desk call × (place ≡ givenPlace desk)
+pub gives-opening : (desk : Desk) (call : Call) (place : ℕ) → Gives desk call place → Sweep desk call × (place ≡ givenPlace desk)
 unfolding Gives after
 gives-opening desk (asks job unit sort register bytes wait clock room) place g =
     let ticket : Ticket = newTicket job unit sort register wait clock in

@@ -14,15 +14,16 @@ use lib.Seq.{getD-set-same, getD-set-other}
 use Rattle.desk.proofs.Calls.{live-host}
 use Rattle.desk.proofs.Laws.{on-host, ClosedAlone, closes-alone, given-at, fit-to-open, fit-to-book, fit-to-cancel, fit-to-expire}
 use Rattle.desk.specs.Close.{cancelRefusal, duePlace, expireRefusal, closeAnswer, closeDesk, Cancels, Expires}
-use Rattle.desk.specs.Open.{oneTo, isRequest, isWrongData, askRefusal, givenPlace, requestAt, openRefusal, openAnswer, newTicket, withTicket, openDesk, Opens}
+use Rattle.desk.specs.Open.{givenPlace, requestAt, openRefusal, openAnswer, newTicket, withTicket, openDesk, Opens}
 use Rattle.desk.specs.Reply.{replyRefusal, bookAnswer, bookDesk, Replies}
 use Rattle.desk.specs.Ticket.{noTicket, freshDesk, ticketAt, ticketOn, OpenOn, closedOn}
 use Rattle.frame.specs.Frame.{messageOf}
+use Rattle.request.specs.Request.{oneTo, isRequest, isWrongData, askRefusal}
+use Rattle.request.specs.declared.Fault.the-variants.{NoJob, NotAModule, NotARequest, WrongData, WrongWait}
 use Rattle.rows.proofs.Laws.{decides-le, decides-eq, decides-or, decides-and, first-false}
 use Rattle.telegram.specs.Read.{fieldsOf}
-use Rattle.desk.specs.declared.Ticket.{Ticket}
+use Rattle.waiting.specs.declared.Ticket.{Ticket}
 use Rattle.desk.specs.declared.Desk.{Desk}
-use Rattle.desk.specs.declared.Fault.the-variants.{NoJob, NotAModule, NotARequest, WrongData, WrongWait}
 use Rattle.desk.specs.declared.Opening.{Opening}
 use Rattle.desk.specs.declared.AfterOpen.{AfterOpen}
 use Rattle.desk.specs.declared.AfterReply.{AfterReply}

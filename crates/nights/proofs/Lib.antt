@@ -1,2 +1,3 @@
 pub mod Laws
 pub mod Fair
+pub mod Count

@@ -14,7 +14,7 @@ use Rattle.desk.specs.Reply.{replyRefusal, bookAnswer, bookDesk}
 use Rattle.desk.specs.Ticket.{ticketAt, ticketOn}
 use Rattle.frame.specs.Frame.{messageOf}
 use Rattle.telegram.specs.Read.{fieldsOf}
-use Rattle.desk.specs.declared.Ticket.{Ticket}
+use Rattle.waiting.specs.declared.Ticket.{Ticket}
 use Rattle.desk.specs.declared.Desk.{Desk}
 use Rattle.desk.specs.declared.Opening.{Opening}
 use Rattle.desk.specs.declared.Booking.{Booking}

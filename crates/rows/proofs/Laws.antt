@@ -9,7 +9,7 @@ use Prim.Native.Nat.{ℕ, _≤_, _<_}
 use native.Mathlib.Omega.{arith}
 use borrow.Author.Tests.{ltb-true, ltb-false, leb-true, leb-false, eqb-true, eqb-false, not-true, not-false, eq-eqb, ne-eqb, lt-ltb, le-ltb, le-leb, lt-leb}
 use lib.Dec.{ltb, leb, eqb}
-use Rattle.rows.specs.Rows.{Row, First, NoRow, Ranked, Test, firstOf, orLater}
+use Rattle.rows.specs.Rows.{Row, First, NoRow, Ranked, Test, firstOf, orLater, passedUp, raised}
 
 -- ---- a test decides a condition
 
@@ -73,6 +73,11 @@ Fit [] (r ∷ rs) = ⊥
 Fit (t ∷ ts) [] = ⊥
 Fit (t ∷ ts) (r ∷ rs) = Decides (t .tells) (r .holds) × ((t .gives ≡ r .gives) × ((r .holds → ⊥) → Fit ts rs))
 
+-- one row after the other: `d otherwise λ n. rest` is a `Fit` of a test that decides its row, and of the rest where that row does not hold
+infixr 20 _otherwise_
+pub _otherwise_ : {F : Type 0} {f : F} {b : Bool} {P Rest : Type 0} → Decides b P → ((P → ⊥) → Rest) → Decides b P × ((f ≡ f) × ((P → ⊥) → Rest))
+d otherwise rest = (d, (refl, rest))
+
 -- a row that does not hold may stand before the others
 later : {F : Type 0} (r : Row F) (rs : List (Row F)) (o : Option F) → (r .holds → ⊥) → Ranked rs o → Ranked (r ∷ rs) o
 later r rs none n p = (n, p)
@@ -106,6 +111,13 @@ first-append {F} (t ∷ ts) us o e = go (t .tells) (first-append ts us o e)
     go true ih = refl
     go false ih = ih
 
+-- rows that are passed up hold as they are
+pub ranked-up : {F G : Type 0} (up : F → G) (rs : List (Row F)) (o : Option F) → Ranked rs o → Ranked (passedUp up rs) (raised up o)
+ranked-up up [] none p = tt
+ranked-up up [] (some f) p = absurd p
+ranked-up up (r ∷ rs) none p = (p .0, ranked-up up rs none (p .1))
+ranked-up up (r ∷ rs) (some f) p = ⊎-elim (λ a. inl (a .0, ap up (a .1))) (λ a. inr (a .0, ranked-up up rs (some f) (a .1))) p
+
 -- ---- where nothing refuses, no test tells
 
 pub never-both : {A : Type 0} (o : Option A) (x : A) → o ≡ some x → o ≡ none → ⊥
@@ -118,6 +130,10 @@ first-false false f o e = (refl, e)
 pub or-none : {F : Type 0} (o later : Option F) → orLater o later ≡ none → (o ≡ none) × (later ≡ none)
 or-none none later e = (refl, e)
 or-none (some f) later e = absurd (never-both (some f) f refl e)
+
+pub raised-none : {F G : Type 0} (up : F → G) (o : Option F) → raised up o ≡ none → o ≡ none
+raised-none up none e = refl
+raised-none up (some f) e = absurd (never-both (some (up f)) (up f) refl e)
 
 -- ---- both directions: a refusal is given exactly when its row is the first that holds, and none exactly when no row does
 

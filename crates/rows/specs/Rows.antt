@@ -49,3 +49,13 @@ firstOf (t ∷ ts) = cond (t .tells) (some (t .gives)) (firstOf ts)
 abbrev pub orLater : {F : Type 0} → Option F → Option F → Option F
 orLater (some f) later = some f
 orLater none later = later
+
+-- ---- where one call is made by another, and "a refusal there ends the call": each refusal given as one of the other call's own
+
+abbrev pub passedUp : {F G : Type 0} → (F → G) → List (Row F) → List (Row G)
+passedUp up [] = []
+passedUp up (r ∷ rs) = row (r .holds) (up (r .gives)) ∷ passedUp up rs
+
+abbrev pub raised : {F G : Type 0} → (F → G) → Option F → Option G
+raised up (some f) = some (up f)
+raised up none = none

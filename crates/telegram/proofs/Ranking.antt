@@ -9,7 +9,7 @@ use Prim.Native.Nat.{ℕ, zero, suc, _+_, _-_, _<_}
 use native.Mathlib.Omega.{arith}
 use native.Mathlib.Numerals.{add-one}
 use lib.ListN.{length, length-append, List·getD-append}
-use Rattle.rows.proofs.Laws.{Decides, decides-lt, decides-eq, decides-not, decides-or, told-false, decides-as, Fit, ranked, first-append, told-exactly, clash}
+use Rattle.rows.proofs.Laws.{Decides, decides-lt, decides-eq, decides-not, decides-or, told-false, decides-as, Fit, ranked, _otherwise_, first-append, told-exactly, clash}
 use Rattle.remainder.specs.Remainder.{remainderOf}
 use Rattle.rows.specs.Rows.{row, Ranked, firstOf, First, NoRow}
 use Rattle.frame.specs.Frame.{between, framed, messageOf}
@@ -114,38 +114,13 @@ module _ (frame : List ℕ) (right : IsNotFramed frame → ⊥) (no-stray : HasS
       (row (OfMessage frame IsShort) ShortMessage ∷ row (OfMessage frame IsLong) LongMessage ∷ row (OfMessage frame (OverRoom room)) NoRoom
       ∷ row (OfMessage frame IsWrong) CheckFault ∷ row (OfMessage frame HasZeroAddress) ZeroAddress ∷ row (OfMessage frame HasUnknownType) UnknownType ∷ [])
   unfolding IsShort IsLong OverRoom IsWrong HasZeroAddress HasUnknownType
-  rest room = (
-    decides-of _ IsShort (decides-lt (length (messageOf frame)) 6),
-    (
-      refl,
-      λ n₄. (
-        decides-of _ IsLong (decides-lt 246 (length (messageOf frame))),
-        (
-          refl,
-          λ n₅. (
-            decides-of _ (OverRoom room) (decides-lt room (length (messageOf frame) - 6)),
-            (
-              refl,
-              λ n₆. (
-                decides-of _ IsWrong (decides-not (decides-eq (remainderOf (messageOf frame)) 0)),
-                (
-                  refl,
-                  λ n₇. (
-                    decides-of _ HasZeroAddress (decides-or (decides-eq (byte (messageOf frame) 0) 0) (decides-eq (byte (messageOf frame) 1) 0)),
-                    (
-                      refl,
-                      λ n₈.
-                          (decides-of _ HasUnknownType (decides-lt 9 (byte (messageOf frame) 2)), (refl, λ n₉. tt)),
-                    ),
-                  ),
-                ),
-              ),
-            ),
-          ),
-        ),
-      ),
-    ),
-  )
+  rest room =
+      decides-of _ IsShort (decides-lt (length (messageOf frame)) 6) otherwise λ n₄.
+      decides-of _ IsLong (decides-lt 246 (length (messageOf frame))) otherwise λ n₅.
+      decides-of _ (OverRoom room) (decides-lt room (length (messageOf frame) - 6)) otherwise λ n₆.
+      decides-of _ IsWrong (decides-not (decides-eq (remainderOf (messageOf frame)) 0)) otherwise λ n₇.
+      decides-of _ HasZeroAddress (decides-or (decides-eq (byte (messageOf frame) 0) 0) (decides-eq (byte (messageOf frame) 1) 0)) otherwise λ n₈.
+      decides-of _ HasUnknownType (decides-lt 9 (byte (messageOf frame) 2)) otherwise λ n₉. tt
 
 -- "Each is given exactly when its condition holds and no earlier one does": rows 1 to 9 for the reader
 pub read-ranked : (frame : List ℕ) (room : ℕ) → Ranked (readRows frame room) (readRefusal frame room)
@@ -155,32 +130,19 @@ read-ranked frame room =
     (first-append (frameTests frame) (lengthTests (length (messageOf frame)) room ++ messageTests (messageOf frame)) _
     (first-append (lengthTests (length (messageOf frame)) room) (messageTests (messageOf frame)) (firstOf (messageTests (messageOf frame))) refl))
     (ranked (frameTests frame ++ (lengthTests (length (messageOf frame)) room ++ messageTests (messageOf frame))) (readRows frame room)
-    (decides-ends frame, (refl, λ n₁. (decides-stray frame n₁, (refl, λ n₂. (decides-bad frame n₁, (refl, λ n₃. rest frame n₁ n₂ n₃ room)))))))
+    (decides-ends frame otherwise λ n₁.
+    decides-stray frame n₁ otherwise λ n₂.
+    decides-bad frame n₁ otherwise λ n₃. rest frame n₁ n₂ n₃ room))
 
 -- rows 5, 8, 9 and 6 for the writer
 pub write-ranked : (d s t r : ℕ) (bytes : List ℕ) (room : ℕ) → Ranked (writeRows d s t r bytes room) (writeRefusal d s t r bytes room)
 unfolding writeRows writeRefusal IsTooMuch IsZeroAddress IsUnknownType IsOverRoom
 write-ranked d s t r bytes room =
-    ranked (writeTests d s t r bytes room) (writeRows d s t r bytes room) (
-      decides-lt 240 (length bytes),
-      (
-        refl,
-        λ n₅. (
-          decides-or (decides-eq d 0) (decides-eq s 0),
-          (
-            refl,
-            λ n₈. (
-              decides-lt 9 t,
-              (
-                refl,
-                λ n₉.
-                    (decides-lt room (length (telegramFor d s t r bytes)), (refl, λ n₆. tt)),
-              ),
-            ),
-          ),
-        ),
-      ),
-    )
+    ranked (writeTests d s t r bytes room) (writeRows d s t r bytes room)
+    (decides-lt 240 (length bytes) otherwise λ n₅.
+    decides-or (decides-eq d 0) (decides-eq s 0) otherwise λ n₈.
+    decides-lt 9 t otherwise λ n₉.
+    decides-lt room (length (telegramFor d s t r bytes)) otherwise λ n₆. tt)
 
 -- and so of the answers, both ways: `.0` for each number, `.1` for none
 pub read-exactly : (frame : List ℕ) (room : ℕ)

@@ -15,7 +15,7 @@ use lib.ListN.{length, getD, take, drop}
 use Rattle.lent.specs.Lent.{overAt}
 use Rattle.lent.proofs.Laws.{take-over, length-overAt}
 use Rattle.rows.specs.Rows.{First, NoRow, Ranked}
-use Rattle.rows.proofs.Laws.{decides-eq, decides-lt, decides-not, decides-or, ranked, told-exactly, clash}
+use Rattle.rows.proofs.Laws.{decides-eq, decides-lt, decides-not, decides-or, ranked, _otherwise_, told-exactly, clash}
 use Rattle.values.specs.Values.{NoKind, BadLength, NoElement, Unfit, NoRoom, readTests, storedTests, writeTests, readRows, storedRows, writeRows, readAnswer, storedAnswer, writeAnswer, storedValue, writeRefusal, Bytes, Held, Holds, natural, bytesOf, integer, valueAt, storedAt, sizeOf, isSigned, isKind, elementOf, readRefusal, readValue, storedRefusal, setBits, clearBits, toggleBits, bitAt, Numbers, Sizes, Loads, Stores, Keeps, Reads, Writes, Sets, Clears, Toggles, TestsBit}
 use Rattle.values.specs.declared.Value.{Value}
 use Rattle.values.specs.declared.Fault.{Fault}
@@ -36,24 +36,25 @@ use Rattle.values.specs.declared.Writing.the-variants as writing
 pub read-ranked : (kind : ℕ) (bytes : List ℕ) (element : ℕ) → Ranked (readRows kind bytes element) (readRefusal kind bytes element)
 unfolding readRows readRefusal NoKind BadLength NoElement
 read-ranked kind bytes element =
-    ranked (readTests kind bytes element) (readRows kind bytes element) (
-      decides-not (decides-kind kind),
-      (refl, λ n₄₀. (decides-or (decides-eq (length bytes) 0) (decides-length kind bytes), (refl, λ n₄₁. (decides-lt _ _, (refl, λ n₄₂. tt))))),
-    )
+    ranked (readTests kind bytes element) (readRows kind bytes element)
+    (decides-not (decides-kind kind) otherwise λ n₄₀.
+    decides-or (decides-eq (length bytes) 0) (decides-length kind bytes) otherwise λ n₄₁.
+    decides-lt _ _ otherwise λ n₄₂. tt)
 
 pub stored-ranked : (kind : ℕ) (value : Value) → Ranked (storedRows kind value) (storedRefusal kind value)
 unfolding storedRows storedRefusal NoKind Unfit
 stored-ranked kind value =
     ranked (storedTests kind value) (storedRows kind value)
-    (decides-not (decides-kind kind), (refl, λ n₄₀. (decides-not (decides-fits kind value), (refl, λ n₄₃. tt))))
+    (decides-not (decides-kind kind) otherwise λ n₄₀.
+    decides-not (decides-fits kind value) otherwise λ n₄₃. tt)
 
 pub write-ranked : (kind : ℕ) (value : Value) (room : List ℕ) → Ranked (writeRows kind value room) (writeRefusal kind value (length room))
 unfolding writeRows writeRefusal NoKind Unfit NoRoom
 write-ranked kind value room =
-    ranked (writeTests kind value (length room)) (writeRows kind value room) (
-      decides-not (decides-kind kind),
-      (refl, λ n₄₀. (decides-not (decides-fits kind value), (refl, λ n₄₃. (decides-lt _ _, (refl, λ n₄₄. tt))))),
-    )
+    ranked (writeTests kind value (length room)) (writeRows kind value room)
+    (decides-not (decides-kind kind) otherwise λ n₄₀.
+    decides-not (decides-fits kind value) otherwise λ n₄₃.
+    decides-lt _ _ otherwise λ n₄₄. tt)
 
 -- and so of the calls' answers, both ways: `.0` for each number, `.1` for none
 pub read-exactly : (kind : ℕ) (bytes : List ℕ) (element : ℕ)

@@ -2,7 +2,7 @@ use mathlib.Core.Path.{refl, sym, ap, _∙_}
 use borrow.Author.Needs.{needs}
 use Rattle.desk.proofs.cancel.Statement.{statement}
 use Rattle.desk.proofs.Calls.{live-host, cancel-theirs, cancel-other, cancel-none}
-use Rattle.desk.specs.declared.Ticket.{Ticket}
+use Rattle.waiting.specs.declared.Ticket.{Ticket}
 use Rattle.desk.proofs.cancel.Tie as tie
 
 ticket-on-requires : tie.Need-ticket-on-requires

@@ -6,7 +6,8 @@ use borrow.Author.Needs.{needs}
 use borrow.Author.Count.{below-more}
 use Rattle.first.proofs.Laws.{first-at}
 use Rattle.desk.proofs.due_place.Statement.{statement}
-use Rattle.desk.specs.Close.{isDue, duePlace}
+use Rattle.desk.specs.Close.{duePlace}
+use Rattle.waiting.specs.Due.{isDue}
 use Rattle.desk.specs.Ticket.{ticketAt}
 use Rattle.desk.proofs.Calls.{end-none}
 use Rattle.desk.proofs.due_place.Tie as tie

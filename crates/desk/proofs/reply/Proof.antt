@@ -2,8 +2,9 @@ use mathlib.Core.Path.{refl, sym, ap, _∙_}
 use borrow.Author.Needs.{needs}
 use lib.ListN.{length}
 use Rattle.desk.proofs.reply.Statement.{statement}
-use Rattle.desk.proofs.Calls.{live-host, judged-misfit, judged-fits, fits-live, reply-unread, reply-judged}
-use Rattle.desk.specs.declared.Ticket.{Ticket}
+use Rattle.desk.proofs.Calls.{live-host, reply-unread, reply-judged}
+use Rattle.waiting.proofs.Laws.{fitting, judged-misfit, judged-fits}
+use Rattle.waiting.specs.declared.Ticket.{Ticket}
 use Rattle.desk.proofs.reply.Tie as tie
 
 examine-requires : tie.Need-examine-requires
@@ -24,8 +25,8 @@ returns c = rw (reply-unread (c .before .before .before .before .before .before 
 ticket-on-requires : tie.Need-ticket-on-requires
 ticket-on-requires c κs = search needs
 
-judge-reply-requires : tie.Need-judge-reply-requires
-judge-reply-requires c κs = search needs
+judge-requires : tie.Need-judge-requires
+judge-requires c κs = search needs
 
 enum-known-fault : tie.Need-enum-known-fault
 enum-known-fault c = search needs
@@ -37,11 +38,11 @@ read-requires : tie.Need-read-requires
 read-requires c κs = search needs
 
 closed-on-requires : tie.Need-closed-on-requires
-closed-on-requires c κs = live-host (c .before .before .before .before .before .before .before .before .before .before .before .before .before .before .args .desk) _ (ap (λ (t : Ticket). t .live) (sym (c .before .before .before .before .before .before .before .ticket-on .ensures)) ∙ fits-live (c .before .before .before .before .before .before .before .ticket-on .result) (c .before .before .before .before .before .before .before .before .before .reading .given .0 .0) (judged-fits _ (sym (c .before .before .before .before .enum-told2 .given .1) ∙ c .before .before .before .before .before .before .judge-reply .ensures)))
+closed-on-requires c κs = live-host (c .before .before .before .before .before .before .before .before .before .before .before .before .before .before .args .desk) _ (ap (λ (t : Ticket). t .live) (sym (c .before .before .before .before .before .before .before .ticket-on .ensures)) ∙ fitting (c .before .before .before .before .before .before .before .ticket-on .result) (c .before .before .before .before .before .before .before .before .before .reading .given .0 .0) (judged-fits _ (sym (c .before .before .before .before .enum-told2 .given .1) ∙ c .before .before .before .before .before .before .judge .ensures)) .0)
 
 returns-2 : tie.Need-returns-2
 returns-2 c =
-    let j = reply-judged (c .before .before .before .before .before .before .before .before .before .before .before .args .desk) (c .before .before .before .before .before .before .before .before .before .before .before .args .frame .now) (length (c .before .before .before .before .before .before .before .before .before .before .before .args .room .now)) _ _ _ _ (c .before .before .before .before .before .before .before .before .examine .ensures) (c .before .before .before .before .before .before .reading .given .1) (c .before .before .before .before .ticket-on .ensures) (judged-misfit _ _ (sym (c .before .fault .given .1) ∙ c .before .before .before .judge-reply .ensures)) in
+    let j = reply-judged (c .before .before .before .before .before .before .before .before .before .before .before .args .desk) (c .before .before .before .before .before .before .before .before .before .before .before .args .frame .now) (length (c .before .before .before .before .before .before .before .before .before .before .before .args .room .now)) _ _ _ _ (c .before .before .before .before .before .before .before .before .examine .ensures) (c .before .before .before .before .before .before .reading .given .1) (c .before .before .before .before .ticket-on .ensures) (judged-misfit _ _ (sym (c .before .fault .given .1) ∙ c .before .before .before .judge .ensures)) in
     rw (j .2) (refl, refl, refl)
 
 same-length : tie.Need-same-length
@@ -49,7 +50,7 @@ same-length c = search needs
 
 returns-3 : tie.Need-returns-3
 returns-3 c =
-    let j = reply-judged (c .before .before .before .before .before .before .before .before .before .before .before .before .before .before .before .args .desk) (c .before .before .before .before .before .before .before .before .before .before .before .before .before .before .before .args .frame .now) (length (c .before .before .before .before .before .before .before .before .before .before .before .before .before .before .before .args .room .now)) _ _ _ _ (c .before .before .before .before .before .before .before .before .before .before .before .before .examine .ensures) (c .before .before .before .before .before .before .before .before .before .before .reading .given .1) (c .before .before .before .before .before .before .before .before .ticket-on .ensures) (judged-fits _ (sym (c .before .before .before .before .before .enum-told2 .given .1) ∙ c .before .before .before .before .before .before .before .judge-reply .ensures)) in
+    let j = reply-judged (c .before .before .before .before .before .before .before .before .before .before .before .before .before .before .before .args .desk) (c .before .before .before .before .before .before .before .before .before .before .before .before .before .before .before .args .frame .now) (length (c .before .before .before .before .before .before .before .before .before .before .before .before .before .before .before .args .room .now)) _ _ _ _ (c .before .before .before .before .before .before .before .before .before .before .before .before .examine .ensures) (c .before .before .before .before .before .before .before .before .before .before .reading .given .1) (c .before .before .before .before .before .before .before .before .ticket-on .ensures) (judged-fits _ (sym (c .before .before .before .before .before .enum-told2 .given .1) ∙ c .before .before .before .before .before .before .before .judge .ensures)) in
     rw (j .2, ← j .1, ← c .before .before .before .before .before .before .before .before .ticket-on .ensures) (refl, c .closed-on .ensures, rw (j .0) at (c .before .before .before .read .ensures .1))
 
 pub reply-spec : {M : Type 1} → statement M
@@ -62,7 +63,7 @@ reply-spec =
     why-requires
     returns
     ticket-on-requires
-    judge-reply-requires
+    judge-requires
     enum-known-fault
     enum-told-2
     read-requires

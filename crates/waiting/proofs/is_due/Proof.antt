@@ -1,8 +1,8 @@
 use native.Mathlib.Omega.{arith}
 use borrow.Author.Needs.{needs}
-use Rattle.desk.proofs.is_due.Statement.{statement}
-use Rattle.desk.proofs.Calls.{age-is}
-use Rattle.desk.proofs.is_due.Tie as tie
+use Rattle.waiting.proofs.is_due.Statement.{statement}
+use Rattle.waiting.proofs.Laws.{age-is}
+use Rattle.waiting.proofs.is_due.Tie as tie
 
 wrapping-sub-u32-requires : tie.Need-wrapping-sub-u32-requires
 wrapping-sub-u32-requires c κs = search needs

@@ -1,6 +1,6 @@
 use Rattle.rows.proofs.Laws.{tests}
-use Rattle.desk.proofs.is_request.Statement.{statement}
-use Rattle.desk.proofs.is_request.Tie as tie
+use Rattle.request.proofs.is_request.Statement.{statement}
+use Rattle.request.proofs.is_request.Tie as tie
 
 returns : tie.Need-returns
 returns c = search tests

@@ -1,9 +1,9 @@
 use mathlib.Core.Path.{sym, _∙_}
 use borrow.Author.Needs.{needs}
 use borrow.Author.Tests.{eq-eqb, ne-eqb}
-use Rattle.desk.proofs.judge_request.Statement.{statement}
-use Rattle.desk.specs.Open.{askRefusal}
-use Rattle.desk.proofs.judge_request.Tie as tie
+use Rattle.request.proofs.judge.Statement.{statement}
+use Rattle.request.specs.Request.{askRefusal}
+use Rattle.request.proofs.judge.Tie as tie
 
 returns : tie.Need-returns
 unfolding askRefusal
@@ -41,8 +41,8 @@ returns-6 : tie.Need-returns-6
 unfolding askRefusal
 returns-6 c = rw (ne-eqb _ _ (c .before .before .before .before .before .before .before .before .if1 .left), sym (c .before .before .before .before .before .before .before .one-to .ensures) ∙ c .before .before .before .before .before .before .if2 .taken, sym (c .before .before .before .before .before .is-request .ensures) ∙ c .before .before .before .before .if3 .taken, sym (c .before .before .before .wrong-data .ensures) ∙ c .before .before .if4 .left, sym (c .before .one-to2 .ensures) ∙ c .if5 .left)
 
-pub judge-request-spec : {M : Type 1} → statement M
-judge-request-spec =
+pub judge-spec : {M : Type 1} → statement M
+judge-spec =
     tie.close
     (tie.spec
     returns

@@ -1,0 +1,89 @@
+-- Which reply fits a ticket: rows 17 to 20, of what a telegram says and what stands on its destination.
+-- Assumes nothing.
+use mathlib.Core.Path.{_≡_}
+use mathlib.Core.Logic.{_≢_, _⊎_}
+use mathlib.Core.Bool.{Bool, true, cond, not, _||_, _&&_}
+use mathlib.Core.List.{List, [], _∷_}
+use mathlib.Core.Option.{Option, some, none}
+use Prim.Native.Nat.{ℕ, _≤_}
+use lib.Dec.{eqb, leb}
+use Rattle.rows.specs.Rows.{Row, row, Test, test, firstOf}
+use Rattle.telegram.specs.declared.Fields.{Fields}
+use Rattle.waiting.specs.declared.Ticket.{Ticket}
+use Rattle.waiting.specs.declared.Fault.{Fault}
+use Rattle.waiting.specs.declared.Fault.the-variants.{NoTicket, OtherModule, OtherKind, OtherRegister}
+use Rattle.waiting.specs.declared.Judged.{Judged}
+use Rattle.waiting.specs.declared.Judged.the-variants.{Fits, Misfit}
+
+-- "A read is answered by type 8, 0, 1 or 2, a write of any sort by 3, 0, 1 or 2."
+unfoldable pub KindFits : ℕ → ℕ → Type 0
+KindFits asked answered =
+    ((asked ≡ 4) × (answered ≡ 8)) ⊎ (((asked ≢ 4) × (answered ≡ 3)) ⊎ ((answered ≡ 0) ⊎ ((answered ≡ 1) ⊎ (answered ≡ 2))))
+
+-- "A datagram's register must equal the ticket's. Types 0 to 3 may also carry register 0"
+unfoldable pub RegisterFits : ℕ → ℕ → ℕ → Type 0
+RegisterFits asked answered register = (register ≡ asked) ⊎ ((answered ≤ 3) × (register ≡ 0))
+
+-- ---- the rows
+
+-- 17: "no ticket open on its destination"
+unfoldable pub IsNoTicket : Ticket → Type 0
+IsNoTicket ticket = ticket .live ≡ true → ⊥
+
+-- 18: "source is not the ticket's module"
+unfoldable pub IsOtherModule : Ticket → Fields → Type 0
+IsOtherModule ticket t = t .source ≢ ticket .unit
+
+-- 19: "kind does not fit"
+unfoldable pub IsOtherKind : Ticket → Fields → Type 0
+IsOtherKind ticket t = KindFits (ticket .sort) (t .sort) → ⊥
+
+-- 20: "register does not fit"
+unfoldable pub IsOtherRegister : Ticket → Fields → Type 0
+IsOtherRegister ticket t = RegisterFits (ticket .register) (t .sort) (t .register) → ⊥
+
+unfoldable pub fitRows : Ticket → Fields → List (Row Fault)
+fitRows ticket t =
+    row (IsNoTicket ticket) NoTicket
+    ∷ row (IsOtherModule ticket t) OtherModule
+    ∷ row (IsOtherKind ticket t) OtherKind
+    ∷ row (IsOtherRegister ticket t) OtherRegister
+    ∷ []
+
+-- ---- how they are tested
+
+abbrev pub kindFits : ℕ → ℕ → Bool
+kindFits asked answered = leb answered 2 || cond (eqb asked 4) (eqb answered 8) (eqb answered 3)
+
+abbrev pub registerFits : ℕ → ℕ → ℕ → Bool
+registerFits asked answered register = eqb register asked || (leb answered 3 && eqb register 0)
+
+abbrev pub fitTests : Ticket → Fields → List (Test Fault)
+fitTests ticket t =
+    test (not (ticket .live)) NoTicket
+    ∷ test (not (eqb (t .source) (ticket .unit))) OtherModule
+    ∷ test (not (kindFits (ticket .sort) (t .sort))) OtherKind
+    ∷ test (not (registerFits (ticket .register) (t .sort) (t .register))) OtherRegister
+    ∷ []
+
+unfoldable pub fitRefusal : Ticket → Fields → Option Fault
+fitRefusal ticket t = firstOf (fitTests ticket t)
+
+-- the paper's number of each refusal
+abbrev pub faultNumber : Fault → ℕ
+faultNumber NoTicket = 17
+faultNumber OtherModule = 18
+faultNumber OtherKind = 19
+faultNumber OtherRegister = 20
+
+-- ---- the contracts
+
+abbrev pub fitAnswer : Option Fault → Judged
+fitAnswer (some f) = Misfit f
+fitAnswer none = Fits
+
+abbrev pub Judges : Ticket → Fields → Judged → Type 0
+Judges ticket t r = r ≡ fitAnswer (fitRefusal ticket t)
+
+abbrev pub Numbers : Fault → ℕ → Type 0
+Numbers fault r = r ≡ faultNumber fault
