@@ -45,19 +45,22 @@ use Rattle.bench.specs.declared.Fault.{Fault as Silence}
 use Rattle.bench.specs.declared.AfterBuild.{AfterBuild}
 use Rattle.bench.specs.declared.AfterTake.{AfterTake}
 use Rattle.desk.proofs.Laws.{opens-once, replies-once, cancels-once, expires-once}
-use Rattle.desk.proofs.Ranking.{ask-ranked, open-ranked, reply-ranked, cancel-ranked, expire-ranked}
+use Rattle.request.proofs.Laws.{ask-ranked}
+use Rattle.request.specs.Request.{askRows, askRefusal, askAnswer, Asks}
+use Rattle.request.specs.declared.Fault.{Fault as Denial}
+use Rattle.request.specs.declared.Asking.{Asking}
+use Rattle.request.specs.declared.Asking.the-variants.{Allowed, Denied}
+use Rattle.desk.proofs.Ranking.{open-ranked, reply-ranked, cancel-ranked, expire-ranked}
 use Rattle.desk.specs.Close.{cancelRows, expireRows, cancelRefusal, closeAnswer, closeDesk, Cancels, duePlace, expireRefusal, Expires}
-use Rattle.desk.specs.Open.{askRows, openRows, askRefusal, askAnswer, Asks, openRefusal, openAnswer, openDesk, openRoom, givenPlace, newTicket, requestAt, Opens}
+use Rattle.desk.specs.Open.{openRows, openRefusal, openAnswer, openDesk, openRoom, givenPlace, newTicket, requestAt, Opens}
 use Rattle.desk.specs.Reply.{replyRows, replyRefusal, bookAnswer, bookDesk, bookRoom, Replies}
 use Rattle.desk.specs.Ticket.{ticketOn}
-use Rattle.desk.specs.declared.Asking.{Asking}
-use Rattle.desk.specs.declared.Asking.the-variants.{Allowed, Denied}
 use Rattle.desk.specs.declared.Opening.the-variants as opening
 use Rattle.desk.specs.declared.Booking.the-variants as booking
 use Rattle.desk.specs.declared.Closing.the-variants as closing
 use Rattle.desk.specs.declared.Desk.{Desk}
 use Rattle.desk.specs.declared.Fault.{Fault as Refusal}
-use Rattle.desk.specs.declared.Ticket.{Ticket}
+use Rattle.waiting.specs.declared.Ticket.{Ticket}
 use Rattle.desk.specs.declared.AfterOpen.{AfterOpen}
 use Rattle.desk.specs.declared.AfterReply.{AfterReply}
 use Rattle.desk.specs.declared.AfterClose.{AfterClose}
@@ -103,7 +106,7 @@ both {A} {B} e = ap₂ (λ (a : A) (b : B). (a, b)) (e .0) (e .1)
 -- ---- rows 10 to 22: each number exactly when its row holds and no earlier one does (`.0`), and done exactly when none does (`.1`)
 
 module _ (job unit sort : ℕ) (bytes : List ℕ) (wait : ℕ) where
-  pub ask-exactly : ((f : Refusal) → (askAnswer (askRefusal job unit sort bytes wait) ≡ Denied f) ↔ First (askRows job unit sort bytes wait) f)
+  pub ask-exactly : ((f : Denial) → (askAnswer (askRefusal job unit sort bytes wait) ≡ Denied f) ↔ First (askRows job unit sort bytes wait) f)
       × ((askAnswer (askRefusal job unit sort bytes wait) ≡ Allowed) ↔ NoRow (askRows job unit sort bytes wait))
   ask-exactly =
       told-exactly askAnswer Denied (λ f. refl) (λ f g e. cc) (λ f e. clash (cc)) (askRows job unit sort bytes wait) (askRefusal job unit sort bytes wait)

@@ -16,9 +16,11 @@ use Rattle.telegram.specs.Read.{fieldsOf, dataOf, readFrame}
 use Rattle.telegram.specs.declared.Fields.{Fields}
 use Rattle.telegram.specs.declared.Reading.the-variants.{Telegram}
 use Rattle.desk.proofs.Laws.{ClosedAlone, closes-alone}
-use Rattle.desk.proofs.Ranking.{book-ranked}
-use Rattle.desk.specs.Reply.{KindFits, RegisterFits, IsNoTicket, IsOtherModule, IsOtherKind, IsOtherRegister, bookRows, bookRefusal, replyRefusal, Replies}
+use Rattle.waiting.proofs.Laws.{fit-ranked}
+use Rattle.waiting.specs.Fit.{KindFits, RegisterFits, IsNoTicket, IsOtherModule, IsOtherKind, IsOtherRegister, fitRows, fitRefusal}
+use Rattle.desk.specs.Reply.{bookRefusal, replyRefusal, Replies}
 use Rattle.desk.specs.Ticket.{ticketOn, OpenOn, closedOn}
+use Rattle.waiting.specs.declared.Ticket.{Ticket}
 use Rattle.desk.specs.declared.Desk.{Desk}
 use Rattle.desk.specs.declared.Booking.the-variants.{Booked}
 use Rattle.desk.specs.declared.AfterReply.{AfterReply}
@@ -38,10 +40,12 @@ pub use Rattle.catalogue.proofs.Laws.{found-exactly, every-right, no-pair-twice
 pub use Rattle.bench.proofs.Rules.{read-rule, write-rule, set-rule, clear-rule, toggle-rule, nack-rule, unknown-rule, reply-reads}
 pub use Rattle.bench.proofs.Kept.{made-sound}
 -- ---- "and the desk its listed rules": the address that is given, the request that is written, the tickets that are closed
-pub use Rattle.desk.proofs.Laws.{opened-given, request-reads-back, booked-right, cancelled-right, expired-right, set-back-due}
+pub use Rattle.desk.proofs.Laws.{opened-given, request-reads-back, booked-right, cancelled-right, expired-right}
+pub use Rattle.waiting.proofs.Laws.{set-back-due}
 -- over any sequence of calls from a fresh desk: each answer belongs to the opening that holds the address, and the turn is fair
 pub use Rattle.nights.proofs.Laws.{any-night, on-hosts-only}
 pub use Rattle.nights.proofs.Fair.{turn-fair, free-before-again}
+pub use Rattle.nights.proofs.Count.{openings-between}
 
 -- ---- "A reply closes exactly the ticket open on its host address, and only where module, reply kind and register fit it."
 
@@ -55,11 +59,12 @@ pub fitting-booked : (desk : Desk) (frame room : List ℕ) (r : AfterReply) (roo
     → (r .answer ≡ Booked (ticketOn desk (t .destination) .job) (t .destination) (t .sort) (t .size))
     × ClosedAlone desk (t .destination) (r .desk)
     × (room′ ≡ over (dataOf (messageOf frame)) room)
-unfolding replyRefusal bookRows IsNoTicket IsOtherModule IsOtherKind IsOtherRegister
+unfolding replyRefusal bookRefusal fitRows IsNoTicket IsOtherModule IsOtherKind IsOtherRegister
 fitting-booked desk frame room r room′ replies t read live unit kind register =
     let told = reading-telegram frame (length room) t read in
-    let fits : bookRefusal desk t ≡ none =
-    done-exactly (bookRows desk t) (bookRefusal desk t) (book-ranked desk t) .1 ((λ n. n live), ((λ n. n unit), ((λ n. n kind), ((λ n. n register), tt)))) in
-    let none-of : replyRefusal desk frame (length room) ≡ none = rw (told .0, ← told .1) fits in
+    let ticket : Ticket = ticketOn desk (t .destination) in
+    let fits : fitRefusal ticket t ≡ none =
+    done-exactly (fitRows ticket t) (fitRefusal ticket t) (fit-ranked ticket t) .1 ((λ n. n live), ((λ n. n unit), ((λ n. n kind), ((λ n. n register), tt)))) in
+    let none-of : replyRefusal desk frame (length room) ≡ none = rw (told .0, ← told .1, fits) in
     let closing : r .desk ≡ closedOn desk (t .destination) = replies .1 ∙ rw (none-of, ← told .1) in
     (replies .0 ∙ rw (none-of, ← told .1), rw closing (closes-alone desk (t .destination) live), replies .2 ∙ rw none-of)

@@ -16,6 +16,7 @@ use Rattle.frame.specs.Frame.{substituted, messageOf}
 use Rattle.lent.proofs.Laws.{take-over}
 use Rattle.lent.specs.Lent.{over}
 use Rattle.rows.proofs.Laws.{done-exactly, refused-exactly, decides-eq}
+use Rattle.rows.specs.Rows.{raised}
 use Rattle.telegram.proofs.Judge.{reading-telegram}
 use Rattle.telegram.proofs.Laws.{fieldsFor, data-of-written}
 use Rattle.telegram.proofs.Sound.{messageOf-framed}
@@ -36,15 +37,18 @@ use Rattle.bench.specs.declared.Deed.{Deed}
 use Rattle.bench.specs.declared.Register.{Register}
 use Rattle.bench.specs.declared.Taking.the-variants.{Answered}
 use Rattle.bench.specs.declared.AfterTake.{AfterTake}
-use Rattle.desk.proofs.Calls.{allowed-writable}
+use Rattle.request.proofs.Laws.{ask-ranked, allowed-writable}
+use Rattle.request.specs.Request.{IsWrongData, askRows, askRefusal}
+use Rattle.waiting.proofs.Laws.{fit-ranked}
+use Rattle.waiting.specs.Fit.{KindFits, RegisterFits, IsNoTicket, IsOtherModule, IsOtherKind, IsOtherRegister, fitRows, fitRefusal}
+use Rattle.waiting.specs.declared.Fault.the-variants.{OtherModule}
+use Rattle.waiting.specs.declared.Ticket.{Ticket}
 use Rattle.desk.proofs.Laws.{opened-fit, fit-to-open, on-host, ClosedAlone, closes-alone, request-reads-back}
-use Rattle.desk.proofs.Ranking.{ask-ranked, book-ranked}
-use Rattle.desk.specs.Open.{IsWrongData, askRows, askRefusal, givenPlace, requestAt, openRefusal, newTicket, withTicket, Opens}
-use Rattle.desk.specs.Reply.{KindFits, RegisterFits, IsNoTicket, IsOtherModule, IsOtherKind, IsOtherRegister, bookRows, bookRefusal, replyRefusal, Replies}
+use Rattle.desk.specs.Open.{givenPlace, requestAt, openRefusal, newTicket, withTicket, Opens}
+use Rattle.desk.specs.Reply.{bookRefusal, replyRefusal, Replies}
 use Rattle.desk.specs.Ticket.{noTicket, ticketOn, OpenOn, closedOn}
 use Rattle.desk.specs.declared.Desk.{Desk}
-use Rattle.desk.specs.declared.Fault.the-variants.{OtherModule}
-use Rattle.desk.specs.declared.Ticket.{Ticket}
+use Rattle.desk.specs.declared.Fault.the-variants.{Misfit}
 use Rattle.desk.specs.declared.Opening.the-variants.{Opened}
 use Rattle.desk.specs.declared.Booking.the-variants.{Booked, Refused}
 use Rattle.desk.specs.declared.AfterOpen.{AfterOpen}
@@ -207,21 +211,16 @@ module _ (desk : Desk) (sound : SoundDesk desk) (job unit sort register : ℕ) (
       is-answer : answer ≡ fieldsOf (messageOf reply)
       is-answer = reading-telegram reply (length room₂) answer (reply-read .0) .1
 
-      judged : replyRefusal desk₂ reply (length room₂) ≡ bookRefusal desk₂ answer
-      unfolding replyRefusal
-      judged = rw (no-fault, is-answer)
+      judged : replyRefusal desk₂ reply (length room₂) ≡ raised Misfit (fitRefusal (ticketOn desk₂ address) answer)
+      unfolding replyRefusal bookRefusal
+      judged = rw (no-fault, ← is-answer)
 
       -- it fits the ticket that was opened
-      fits : ticketOn desk₂ address ≡ ticket → bookRefusal desk₂ answer ≡ none
-      unfolding bookRows IsNoTicket IsOtherModule IsOtherKind IsOtherRegister RegisterFits
-      fits on =
-          done-exactly (bookRows desk₂ answer) (bookRefusal desk₂ answer) (book-ranked desk₂ answer) .1 (
-            (λ none-open. none-open (rw on refl)),
-            (
-              (λ other. other (here ∙ rw on refl)),
-              ((λ unfit. unfit (rw on (answer-fits bench fields bytes))), ((λ unfit. unfit (inl (rw on refl))), tt)),
-            ),
-          )
+      fits : fitRefusal ticket answer ≡ none
+      unfolding fitRows IsNoTicket IsOtherModule IsOtherKind IsOtherRegister RegisterFits
+      fits =
+          done-exactly (fitRows ticket answer) (fitRefusal ticket answer) (fit-ranked ticket answer) .1
+          ((λ shut. shut refl), ((λ other. other here), ((λ unfit. unfit (answer-fits bench fields bytes)), ((λ unfit. unfit (inl refl)), tt))))
 
       -- "A request opened at the desk, taken by a bench at that module's address with room, gives a reply that the desk books on that very
       -- ticket": while the ticket stands, whatever else was opened and closed since
@@ -230,7 +229,7 @@ module _ (desk : Desk) (sound : SoundDesk desk) (job unit sort register : ℕ) (
           × ClosedAlone desk₂ address (b .desk)
           × (room₂′ ≡ over (bytesOf (deed .size) (deed .value)) room₂)
       booked-there on =
-          let none-of : replyRefusal desk₂ reply (length room₂) ≡ none = judged ∙ fits on in
+          let none-of : replyRefusal desk₂ reply (length room₂) ≡ none = judged ∙ rw (on, fits) in
           let closing : b .desk ≡ closedOn desk₂ address = replies .1 ∙ rw (none-of, ← is-answer) in (
             replies .0 ∙ rw (none-of, ← is-answer, on),
             rw closing (closes-alone desk₂ address (rw on refl)),
@@ -238,12 +237,15 @@ module _ (desk : Desk) (sound : SoundDesk desk) (job unit sort register : ℕ) (
           )
 
       -- "offered to a desk whose ticket on that address is another module's, it is 18", and nothing changes
-      pub crossed-refused : OpenOn desk₂ address → ticketOn desk₂ address .unit ≢ unit → (b .answer ≡ Refused OtherModule) × (b .desk ≡ desk₂) × (room₂′ ≡ room₂)
-      unfolding bookRows IsNoTicket IsOtherModule
+      pub crossed-refused : OpenOn desk₂ address → ticketOn desk₂ address .unit ≢ unit
+          → (b .answer ≡ Refused (Misfit OtherModule)) × (b .desk ≡ desk₂) × (room₂′ ≡ room₂)
+      unfolding fitRows IsNoTicket IsOtherModule
       crossed-refused live other =
-          let eighteen : replyRefusal desk₂ reply (length room₂) ≡ some OtherModule =
-          judged ∙ refused-exactly (bookRows desk₂ answer) (bookRefusal desk₂ answer) (book-ranked desk₂ answer) OtherModule .1
+          let there : Ticket = ticketOn desk₂ address in
+          let misfit : fitRefusal there answer ≡ some OtherModule =
+          refused-exactly (fitRows there answer) (fitRefusal there answer) (fit-ranked there answer) OtherModule .1
           (inr ((λ shut. shut live), inl ((λ same. other (sym same ∙ here)), refl))) in
+          let eighteen : replyRefusal desk₂ reply (length room₂) ≡ some (Misfit OtherModule) = judged ∙ rw misfit in
           (replies .0 ∙ rw eighteen, replies .1 ∙ rw eighteen, replies .2 ∙ rw eighteen)
 
       -- "for a read with the right the data are the register's bytes"

@@ -2,7 +2,7 @@
 -- Assumes nothing.
 use mathlib.Core.Path.{_≡_, refl}
 use mathlib.Core.Bool.{true}
-use Rattle.desk.specs.Close.{age}
+use Rattle.waiting.specs.Due.{age}
 use Rattle.frame.specs.Frame.{substituted, framed, between, restored, messageOf}
 use Rattle.promises.specs.Table.{holds, allHold, table}
 use Rattle.remainder.specs.Remainder.{timesX, timesXs, withByte, withBytes, remainderOf}

@@ -6,13 +6,13 @@ use mathlib.Core.List.{List, [], _∷_}
 use mathlib.Core.Option.{Option, some, none}
 use Prim.Native.Nat.{ℕ}
 use lib.Dec.{eqb}
-use Rattle.desk.specs.Close.{isDue}
 use Rattle.desk.specs.Open.{newTicket}
 use Rattle.frame.specs.Frame.{framed}
 use Rattle.remainder.specs.Remainder.{remainderOf}
 use Rattle.telegram.specs.Read.{readFrame, faultNumber}
 use Rattle.telegram.specs.declared.Reading.{Reading}
 use Rattle.telegram.specs.declared.Reading.the-variants.{Telegram, Refused}
+use Rattle.waiting.specs.Due.{isDue}
 use Rattle.values.specs.Values.{readValue, toggleBits}
 use Rattle.values.specs.declared.Reading.{Reading as ValueReading}
 use Rattle.values.specs.declared.Reading.the-variants as given
