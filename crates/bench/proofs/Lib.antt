@@ -5,3 +5,4 @@ pub mod Answering
 pub mod Laws
 pub mod Rules
 pub mod Kept
+pub mod Written

@@ -7,7 +7,7 @@ use crate::Register;
 use crate::Taking;
 use crate::held;
 use telegram::Fields;
-ghost use Rattle.bench.specs.Take.{Takes, Requests, Answers, nack, readDeed, writeDeed, heldDeed, deedOf, replyFor, replyOf, doneTo, isAnswer, roomRefusal};
+ghost use Rattle.bench.specs.Take.{Takes, Requests, Answers, readDeed, writeDeed, heldDeed, deedOf, replyFor, replyOf, doneTo, isAnswer, roomRefusal};
 ghost use Rattle.bench.specs.Register.{hasRight};
 ghost use Rattle.bench.specs.declared.Taking.the-variants.{Silent};
 ghost use mathlib.Core.Path.{_≡_};
@@ -115,17 +115,11 @@ fn deed(bench: Bench, t: Fields, bytes: &[u8]) -> Deed
     if place < held::held_count(bench) {
         held_deed(held::register_at(bench, place), t.sort, bytes)
     } else {
-        refusal(0)
-    }
-}
-
-fn refusal(value: u64) -> Deed
-    ensures { λ r. ⌜ r ≡ nack value ⌝ }
-{
-    Deed {
-        sort: 0,
-        size: 0,
-        value,
+        Deed {
+            sort: 0,
+            size: 0,
+            value: 0,
+        }
     }
 }
 
@@ -151,10 +145,14 @@ fn held_deed(register: Register, sort: u8, bytes: &[u8]) -> Deed
     if sort == 9 {
         return write_deed(register, 4, n, values::toggle_bits(v, mask));
     }
-    refusal(v)
+    Deed {
+        sort: 0,
+        size: 0,
+        value: v,
+    }
 }
 
-// A read with so many data bytes.
+// A read with so many data bytes. What is not allowed is answered by a nack, type 0.
 fn read_deed(register: Register, n: usize) -> Deed
     ensures { λ r. ⌜ r ≡ readDeed register n ⌝ }
 {
@@ -167,7 +165,11 @@ fn read_deed(register: Register, n: usize) -> Deed
             };
         }
     }
-    refusal(register.value)
+    Deed {
+        sort: 0,
+        size: 0,
+        value: register.value,
+    }
 }
 
 // A write of any sort that needs this right, with so many data bytes, after which the register has
@@ -185,7 +187,11 @@ fn write_deed(register: Register, right: u8, n: usize, value: u64) -> Deed
             };
         }
     }
-    refusal(register.value)
+    Deed {
+        sort: 0,
+        size: 0,
+        value: register.value,
+    }
 }
 
 fn has_right(register: Register, right: u8) -> bool

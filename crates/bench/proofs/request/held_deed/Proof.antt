@@ -48,11 +48,8 @@ write-deed-requires-4 c κs = search needs
 returns-5 : tie.Need-returns-5
 returns-5 c = c .write-deed4 .ensures ∙ deed-toggle _ _ _ _ (c .before .before .before .before .before .before .before .load .ensures) _ (c .before .toggle-bits .ensures) (c .before .before .if5 .taken)
 
-refusal-requires : tie.Need-refusal-requires
-refusal-requires c κs = search needs
-
 returns-6 : tie.Need-returns-6
-returns-6 c = c .refusal .ensures ∙ deed-other _ _ _ (c .before .before .before .before .before .if1 .left) (c .before .before .before .before .if2 .left) (c .before .before .before .if3 .left) (c .before .before .if4 .left) (c .before .if5 .left)
+returns-6 c = deed-other _ _ _ (c .before .before .before .before .if1 .left) (c .before .before .before .if2 .left) (c .before .before .if3 .left) (c .before .if4 .left) (c .if5 .left)
 
 pub held-deed-spec : {M : Type 1} → statement M
 held-deed-spec =
@@ -72,5 +69,4 @@ held-deed-spec =
     toggle-bits-requires
     write-deed-requires-4
     returns-5
-    refusal-requires
     returns-6)

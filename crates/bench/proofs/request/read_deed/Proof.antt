@@ -1,7 +1,5 @@
 -- `read_deed` is the rule of a read.
 -- Assumes nothing.
-use mathlib.Core.Path.{_∙_}
-use mathlib.Core.Logic.{⊎-elim}
 use borrow.Author.Needs.{needs}
 use Rattle.bench.proofs.request.read_deed.Statement.{statement}
 use Rattle.bench.proofs.Deeds.{read-allowed, read-denied, read-with-data}
@@ -16,12 +14,11 @@ size-requires c κs = search needs
 returns : tie.Need-returns
 returns c = read-allowed _ _ _ _ (c .before .before .before .has-right .ensures) (c .before .before .if1 .taken) (c .before .if2 .taken) (c .size .ensures)
 
-refusal-requires : tie.Need-refusal-requires
-refusal-requires c κs = search needs
-
 returns-2 : tie.Need-returns-2
-returns-2 c = c .refusal .ensures ∙ ⊎-elim (λ w. read-with-data _ _ _ (c .before .before .has-right .ensures) (w .0 .taken) (w .1 .left)) (λ w. read-denied _ _ _ (c .before .before .has-right .ensures) (w .left)) (c .before .if1 .came)
+returns-2 c = read-with-data _ _ _ (c .before .before .has-right .ensures) (c .before .if1 .taken) (c .if2 .left)
+
+returns-3 : tie.Need-returns-3
+returns-3 c = read-denied _ _ _ (c .before .has-right .ensures) (c .if1 .left)
 
 pub read-deed-spec : {M : Type 1} → statement M
-read-deed-spec =
-    tie.close (tie.spec has-right-requires size-requires returns refusal-requires returns-2)
+read-deed-spec = tie.close (tie.spec has-right-requires size-requires returns returns-2 returns-3)

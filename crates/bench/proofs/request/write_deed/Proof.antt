@@ -1,7 +1,6 @@
 -- `write_deed` is the rule of a write of any sort.
 -- Assumes nothing.
 use mathlib.Core.Path.{sym, _∙_}
-use mathlib.Core.Logic.{⊎-elim}
 use borrow.Author.Needs.{needs}
 use Rattle.bench.proofs.request.write_deed.Statement.{statement}
 use Rattle.bench.proofs.Deeds.{write-allowed, write-denied, write-of-other-size}
@@ -16,12 +15,11 @@ size-requires c κs = search needs
 returns : tie.Need-returns
 returns c = write-allowed _ _ _ _ _ (c .before .before .before .has-right .ensures) (c .before .before .if1 .taken) (c .if2 .taken ∙ c .before .size .ensures)
 
-refusal-requires : tie.Need-refusal-requires
-refusal-requires c κs = search needs
-
 returns-2 : tie.Need-returns-2
-returns-2 c = c .refusal .ensures ∙ ⊎-elim (λ w. write-of-other-size _ _ _ _ _ (c .before .before .has-right .ensures) (w .0 .taken) (λ e. w .2 .left (e ∙ sym (w .1 .ensures)))) (λ w. write-denied _ _ _ _ _ (c .before .before .has-right .ensures) (w .left)) (c .before .if1 .came)
+returns-2 c = write-of-other-size _ _ _ _ _ (c .before .before .before .has-right .ensures) (c .before .before .if1 .taken) (λ e. c .if2 .left (e ∙ sym (c .before .size .ensures)))
+
+returns-3 : tie.Need-returns-3
+returns-3 c = write-denied _ _ _ _ _ (c .before .has-right .ensures) (c .if1 .left)
 
 pub write-deed-spec : {M : Type 1} → statement M
-write-deed-spec =
-    tie.close (tie.spec has-right-requires size-requires returns refusal-requires returns-2)
+write-deed-spec = tie.close (tie.spec has-right-requires size-requires returns returns-2 returns-3)
