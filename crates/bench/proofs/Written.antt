@@ -1,5 +1,9 @@
 -- What a telegram wrote stands in the register: bit by bit, and for the next reader.
 -- Assumes nothing.
+use Rattle.deeds.specs.Deeds.{HasRight}
+use Rattle.deeds.proofs.Laws.{MayRead, MayWrite}
+use Rattle.deeds.proofs.Deeds.{size-most}
+use Rattle.rows.proofs.Laws.{told-true}
 use mathlib.Core.Path.{_≡_, sym, ap, _∙_}
 use mathlib.Core.List.{List}
 use Prim.Native.Nat.{ℕ, _-_, _^_, _<_}
@@ -13,14 +17,13 @@ use Rattle.values.proofs.Bytes.{natural-lt, bytesOf-natural}
 use Rattle.values.proofs.Laws.{set-one, set-zero, clear-one, clear-zero, toggle-one, toggle-zero}
 use Rattle.values.specs.Values.{sizeOf, natural, bytesOf, setBits, clearBits, toggleBits, bitAt}
 use Rattle.telegram.specs.declared.Fields.{Fields}
-use Rattle.bench.specs.Register.{Held, registerAt, placeOf, HasRight, withValue}
+use Rattle.bench.specs.Register.{Held, registerAt, placeOf, withValue}
 use Rattle.bench.specs.Sound.{Sound}
-use Rattle.bench.proofs.Deeds.{size-most}
 use Rattle.bench.proofs.Kept.{changed-here, number-stays, place-stays, held-place, data-bytes}
 use Rattle.bench.proofs.Laws.{decides-held}
-use Rattle.bench.proofs.Rules.{named, MayRead, MayWrite, told, Answerable, Gives, read-rule, write-rule, set-rule, clear-rule, toggle-rule}
+use Rattle.bench.proofs.Rules.{named, Answerable, Gives, read-rule, write-rule, set-rule, clear-rule, toggle-rule}
 use Rattle.bench.specs.Take.{Takes}
-use Rattle.bench.specs.declared.Register.{Register}
+use Rattle.deeds.specs.declared.Register.{Register}
 use Rattle.bench.specs.declared.Bench.{Bench}
 use Rattle.bench.specs.declared.AfterTake.{AfterTake}
 
@@ -29,7 +32,7 @@ pub named-after : (address : ℕ) (bench : Bench) → Sound address bench → (n
     → named (withValue bench (placeOf bench number) value) number
     ≡ record { number = named bench number .number; kind = named bench number .kind; rights = named bench number .rights; value = value }
 named-after address bench s number value h =
-    let found = held-place bench number (told (decides-held bench number) h) in
+    let found = held-place bench number (told-true (decides-held bench number) h) in
     ap (registerAt (withValue bench (placeOf bench number) value)) (place-stays bench (placeOf bench number) value number)
     ∙ changed-here bench (placeOf bench number) value (omega (arith, s .places, found .0))
 

@@ -49,3 +49,15 @@ firstOf (t ∷ ts) = cond (t .tells) (some (t .gives)) (firstOf ts)
 abbrev pub orLater : {F : Type 0} → Option F → Option F → Option F
 orLater (some f) later = some f
 orLater none later = later
+
+-- ---- a call that begins with another call: "a refusal there ends the call"
+
+-- the other call's rows, each given as the caller's own refusal
+abbrev pub passedUp : {F G : Type 0} → (F → G) → List (Row F) → List (Row G)
+passedUp up [] = []
+passedUp up (r ∷ rs) = row (r .holds) (up (r .gives)) ∷ passedUp up rs
+
+-- the other call's refusal, if there is one, passed up whole
+abbrev pub passed : {F G : Type 0} → (F → G) → Option F → Option G
+passed up (some f) = some (up f)
+passed up none = none

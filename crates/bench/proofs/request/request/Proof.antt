@@ -3,7 +3,6 @@
 use borrow.Author.Needs.{needs}
 use Rattle.bench.proofs.request.request.Statement.{statement}
 use Rattle.bench.proofs.Answering.{silenced, for-another, no-request, requested, reply-ready}
-use Rattle.bench.proofs.Rules.{told}
 use Rattle.bench.proofs.request.request.Tie as tie
 
 silent-requires : tie.Need-silent-requires

@@ -1,9 +1,9 @@
 -- `read_deed` is the rule of a read.
 -- Assumes nothing.
 use borrow.Author.Needs.{needs}
-use Rattle.bench.proofs.request.read_deed.Statement.{statement}
-use Rattle.bench.proofs.Deeds.{read-allowed, read-denied, read-with-data}
-use Rattle.bench.proofs.request.read_deed.Tie as tie
+use Rattle.deeds.proofs.read_deed.Statement.{statement}
+use Rattle.deeds.proofs.Deeds.{read-allowed, read-denied, read-with-data}
+use Rattle.deeds.proofs.read_deed.Tie as tie
 
 has-right-requires : tie.Need-has-right-requires
 has-right-requires c κs = search needs

@@ -2,9 +2,9 @@
 -- Assumes nothing.
 use mathlib.Core.Path.{sym, _∙_}
 use borrow.Author.Needs.{needs}
-use Rattle.bench.proofs.request.write_deed.Statement.{statement}
-use Rattle.bench.proofs.Deeds.{write-allowed, write-denied, write-of-other-size}
-use Rattle.bench.proofs.request.write_deed.Tie as tie
+use Rattle.deeds.proofs.write_deed.Statement.{statement}
+use Rattle.deeds.proofs.Deeds.{write-allowed, write-denied, write-of-other-size}
+use Rattle.deeds.proofs.write_deed.Tie as tie
 
 has-right-requires : tie.Need-has-right-requires
 has-right-requires c κs = search needs
