@@ -6,3 +6,4 @@ pub mod Laws
 pub mod Rules
 pub mod Kept
 pub mod Written
+pub mod Silence
