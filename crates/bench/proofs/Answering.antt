@@ -25,13 +25,14 @@ use Rattle.values.proofs.Bytes.{length-bytesOf}
 use Rattle.values.specs.Values.{bytesOf}
 use Rattle.telegram.specs.declared.Fields.{Fields}
 use Rattle.lent.specs.Lent.{over}
-use Rattle.bench.proofs.Deeds.{Small, deed-small}
+use Rattle.deeds.proofs.Laws.{Small}
+use Rattle.bench.proofs.Deeds.{deed-small}
 use Rattle.bench.specs.Take.{deedOf, replyFor, replyOf, isAnswer, requestRefusal, roomRefusal, takeRefusal, doneTo, Answers, Requests, Takes}
 use Rattle.bench.specs.declared.Fault.the-variants.{NoRoom, Unread, OtherAddress, NotARequest}
 use Rattle.bench.specs.declared.Bench.{Bench}
 use Rattle.bench.specs.declared.Fault.{Fault}
 use Rattle.bench.specs.declared.Taking.the-variants.{Answered, Silent}
-use Rattle.bench.specs.declared.Deed.{Deed}
+use Rattle.deeds.specs.declared.Deed.{Deed}
 use Rattle.bench.specs.declared.AfterTake.{AfterTake}
 use Rattle.telegram.specs.declared.Fault.the-variants as unwritten
 use Rattle.telegram.specs.declared.Writing.the-variants as writing

@@ -1,7 +1,10 @@
 -- What every call keeps of a bench, and so any sequence of calls; and what was written, read again.
 -- Assumes nothing.
+use Rattle.deeds.specs.Deeds.{nack, heldDeed}
+use Rattle.deeds.proofs.Laws.{deed-fits}
+use Rattle.rows.proofs.Laws.{told-true, Decides, clash}
 use mathlib.Core.Path.{_≡_, refl, sym, ap, _∙_}
-use mathlib.Core.Bool.{Bool, true, false, cond, _&&_}
+use mathlib.Core.Bool.{Bool, true, false, cond}
 use mathlib.Core.List.{List, [], _∷_}
 use mathlib.Core.Logic.{_≢_, inr}
 use mathlib.Core.Option.{Option, some, none}
@@ -15,31 +18,24 @@ use lib.Seq.{set-out, getD-set-same, getD-set-other}
 use lib.Pow.{pow-pos}
 use Rattle.first.proofs.Laws.{ended, first-same}
 use Rattle.frame.specs.Frame.{AllBytes, messageOf}
-use Rattle.rows.proofs.Laws.{Decides, clash}
 use Rattle.rows.specs.Rows.{Ranked}
 use Rattle.telegram.proofs.Laws.{all-at, all-message}
 use Rattle.telegram.specs.Read.{fieldsOf, dataOf}
-use Rattle.values.proofs.Bytes.{bytes-take, bytes-drop, natural-lt}
-use Rattle.values.proofs.Laws.{set-size, clear-size, toggle-size}
+use Rattle.values.proofs.Bytes.{bytes-take, bytes-drop}
 use Rattle.values.proofs.Refusals.{decides-fits}
 use Rattle.values.proofs.Sized.{size-of-kind, stored-back}
-use Rattle.values.specs.Values.{sizeOf, isSigned, natural, storedAt, Bytes, Unfit, setBits, clearBits, toggleBits}
+use Rattle.values.specs.Values.{sizeOf, isSigned, storedAt, Bytes, Unfit}
 use Rattle.values.specs.declared.Value.{Value}
-use Rattle.bench.specs.Register.{Held}
-use Rattle.bench.specs.Build.{Sets}
+use Rattle.bench.specs.Register.{Held, noRegister, emptyBench, registerAt, heldCount, placeOf, isHeld, withValue}
+use Rattle.bench.specs.Build.{Sets, buildAnswer, buildBench, IsNotAModule, makeRows, makeRefusal, Makes, IsWrongKind, IsWrongRights, IsThere, IsFull, addRows, addRefusal, withRegister, Adds, IsNotHeld, IsUnfit, setRows, setRefusal}
 use Rattle.bench.specs.declared.Building.the-variants.{Done}
-use Rattle.bench.specs.Sound.{toAdd, toSet, toTake}
-use Rattle.bench.proofs.Deeds.{either}
+use Rattle.bench.specs.Sound.{toAdd, toSet, toTake, Right, Sound, Call, Calls, AfterCalls}
 use Rattle.bench.proofs.Laws.{decides-held, make-ranked, add-ranked, set-ranked}
-use Rattle.bench.proofs.Rules.{named, told}
-use Rattle.bench.specs.Build.{buildAnswer, buildBench, IsNotAModule, makeRows, makeRefusal, Makes, IsWrongKind, IsWrongRights, IsThere, IsFull, addRows, addRefusal, withRegister, Adds, IsNotHeld, IsUnfit, setRows, setRefusal}
-use Rattle.bench.specs.Register.{noRegister, emptyBench, registerAt, heldCount, placeOf, isHeld, hasRight, withValue}
-use Rattle.bench.specs.Sound.{Right, Sound, Call, Calls, AfterCalls}
-use Rattle.bench.specs.Take.{nack, ack, datagram, readDeed, writeDeed, heldDeed, deedOf, takeRefusal, doneTo, takeBench, Takes}
-use Rattle.bench.specs.declared.Register.{Register}
+use Rattle.bench.proofs.Rules.{named}
+use Rattle.bench.specs.Take.{deedOf, takeRefusal, doneTo, takeBench, Takes}
+use Rattle.deeds.specs.declared.Register.{Register}
 use Rattle.bench.specs.declared.Bench.{Bench}
 use Rattle.bench.specs.declared.Fault.{Fault}
-use Rattle.bench.specs.declared.Deed.{Deed}
 use Rattle.bench.specs.declared.AfterBuild.{AfterBuild}
 use Rattle.bench.specs.declared.AfterTake.{AfterTake}
 
@@ -110,7 +106,7 @@ held-place bench number e =
 pub only-place : (address : ℕ) (bench : Bench) (number place : ℕ) → Sound address bench → place < bench .count → registerAt bench place .number ≡ number
     → placeOf bench number ≡ place
 only-place address bench number place s h e =
-    let found = held-place bench number (told (decides-held bench number) (place, omega (arith, s .few), e)) in
+    let found = held-place bench number (told-true (decides-held bench number) (place, omega (arith, s .few), e)) in
     s .once (placeOf bench number) place (omega (arith, found .0)) h (found .1 ∙ sym e)
 
 -- ---- "It has one address and up to 32 registers": made, added, set
@@ -239,39 +235,6 @@ unfolding dataOf
 data-bytes frame p =
     bytes-take (length (messageOf frame) - 6) (drop 4 (messageOf frame)) (bytes-drop 4 (messageOf frame) (λ i. all-at (messageOf frame) i (all-message frame p)))
 
-module _ (register : Register) (right : Right register) where
-  abbrev Fits : Deed → Type 0
-  Fits deed = deed .value < 2 ^ (8 * sizeOf (register .kind))
-
-  write-fits : (which n v : ℕ) → (n ≡ sizeOf (register .kind) → v < 2 ^ (8 * sizeOf (register .kind))) → Fits (writeDeed register which n v)
-  unfolding writeDeed
-  write-fits which n v h = go (hasRight register which) (eqb n (sizeOf (register .kind))) refl
-    where
-      go : (a b : Bool) → eqb n (sizeOf (register .kind)) ≡ b → Fits (cond (a && b) (ack v) (nack (register .value)))
-      go false b e = right .value
-      go true false e = right .value
-      go true true e = h (eqb-true n (sizeOf (register .kind)) e)
-
-  read-fits : (n : ℕ) → Fits (readDeed register n)
-  unfolding readDeed
-  read-fits n = either Fits (hasRight register 1 && eqb n 0) (datagram register) (nack (register .value)) (right .value) (right .value)
-
-  deed-fits : (sort : ℕ) (bytes : List ℕ) → Bytes bytes → Fits (heldDeed register sort bytes)
-  unfolding heldDeed
-  deed-fits sort bytes each =
-      either Fits (eqb sort 4) _ _ (read-fits (length bytes))
-      (either Fits (eqb sort 5) _ _ (write-fits 2 (length bytes) (natural bytes) mask)
-      (either Fits (eqb sort 6) _ _
-      (write-fits 4 (length bytes) (setBits (register .value) (natural bytes)) (λ e. set-size (sizeOf (register .kind)) (register .value) (natural bytes) (right .value) (mask e)))
-      (either Fits (eqb sort 7) _ _
-      (write-fits 4 (length bytes) (clearBits (register .value) (natural bytes)) (λ e. clear-size (sizeOf (register .kind)) (register .value) (natural bytes) (right .value)))
-      (either Fits (eqb sort 9) _ _
-      (write-fits 4 (length bytes) (toggleBits (register .value) (natural bytes)) (λ e. toggle-size (sizeOf (register .kind)) (register .value) (natural bytes) (right .value) (mask e)))
-      (right .value)))))
-    where
-      mask : length bytes ≡ sizeOf (register .kind) → natural bytes < 2 ^ (8 * sizeOf (register .kind))
-      mask e = rw e at (natural-lt bytes each)
-
 pub take-sound : (address : ℕ) (bench : Bench) → Sound address bench → (frame room : List ℕ) {r : AfterTake} {room′ : List ℕ} → AllBytes frame
     → Takes bench frame room r room′ → Sound address (r .bench)
 unfolding doneTo deedOf
@@ -285,7 +248,7 @@ take-sound address bench s frame room each p = go (takeRefusal bench frame (leng
     held false e = s
     held true e =
         found-sound address bench s (fieldsOf (messageOf frame) .register) _ e
-        (deed-fits _ (found-right address bench s (fieldsOf (messageOf frame) .register) e) (fieldsOf (messageOf frame) .sort) (dataOf (messageOf frame)) (data-bytes frame each))
+        (deed-fits _ (found-right address bench s (fieldsOf (messageOf frame) .register) e .value) (fieldsOf (messageOf frame) .sort) (dataOf (messageOf frame)) (data-bytes frame each))
 
     go : (o : Option Fault) {b : Bench}
         → b ≡ takeBench o bench (doneTo bench (fieldsOf (messageOf frame) .register) (deedOf bench (fieldsOf (messageOf frame)) (dataOf (messageOf frame)))) → Sound address b

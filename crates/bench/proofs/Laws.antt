@@ -1,19 +1,20 @@
 -- What is promised of the bench, each law under the sentence of the paper that it keeps. The rules of a request are in Rules.antt, what
 -- every call keeps in Kept.antt.
 -- Assumes nothing.
+use Rattle.rows.proofs.Laws.{decides-and, ranked-append, ranked-up, _otherwise_, Decides, decides-lt, decides-le, decides-eq, decides-not, decides-or, decides-as, ranked, refused-exactly, told-exactly, clash}
+use Rattle.rows.specs.Rows.{passedUp, raised, Row, First, NoRow, Ranked}
 use Rattle.telegram.specs.declared.Fault.{Fault as Unreadable}
-use Rattle.telegram.specs.declared.Fault.the-variants as unread
 use Rattle.telegram.specs.declared.Reading.the-variants.{Telegram}
-use Rattle.telegram.specs.Read.{readRows, readRefusal}
+use Rattle.telegram.specs.Read.{readRows, readRefusal, IsLong, OverRoom, fieldsOf, dataOf, readFrame}
 use Rattle.telegram.proofs.Ranking.{read-ranked}
 use Rattle.remainder.specs.Remainder.{remainderOf, combined, AlteredNearby}
 use Rattle.remainder.proofs.Laws.{burst-seen, nearby-burst}
-use Rattle.bench.specs.Register.{Held, Numbers}
-use Rattle.bench.specs.Build.{Sets}
+use Rattle.bench.specs.Register.{Held, Numbers, emptyBench, registerAt, heldCount, placeOf, isHeld, withValue, Looks}
+use Rattle.bench.specs.Build.{Sets, buildAnswer, buildBench, IsNotAModule, makeRows, makeTests, makeRefusal, Makes, IsWrongKind, IsWrongRights, IsThere, IsFull, addRows, addTests, addRefusal, withRegister, Adds, IsNotHeld, IsUnfit, setRows, setTests, setRefusal}
 use Rattle.bench.specs.declared.Seen.{Seen}
-use mathlib.Core.Path.{_≡_, refl, sym, ap, ap₂, _∙_}
+use mathlib.Core.Path.{_≡_, refl, sym, ap₂, _∙_}
 use mathlib.Core.Bool.{Bool, true, false, not, _&&_, true≢false}
-use mathlib.Core.List.{List, [], _∷_, _++_}
+use mathlib.Core.List.{List}
 use mathlib.Core.Logic.{_≢_, _⊎_, inl, inr, ⊎-elim, _↔_}
 use mathlib.Core.Option.{Option, some, none}
 use Prim.Native.Nat.{ℕ, _≤_}
@@ -23,21 +24,13 @@ use lib.Dec.{eqb}
 use lib.ListN.{length}
 use Rattle.first.proofs.Laws.{Ended, ended}
 use Rattle.frame.specs.Frame.{framed, messageOf}
-use Rattle.remainder.proofs.Laws.{burst-seen, nearby-burst}
-use Rattle.remainder.specs.Remainder.{remainderOf, combined, AlteredNearby}
-use Rattle.rows.proofs.Laws.{Decides, decides-lt, decides-le, decides-eq, decides-not, decides-or, decides-as, ranked, refused-exactly, told-exactly, clash}
-use Rattle.rows.specs.Rows.{Row, First, NoRow, Ranked, orLater}
 use Rattle.telegram.proofs.Laws.{altered-refused}
-use Rattle.telegram.specs.Read.{OfMessage, IsLong, OverRoom, fieldsOf, dataOf, readFrame}
 use Rattle.values.proofs.Refusals.{decides-kind, decides-fits}
 use Rattle.values.specs.Values.{sizeOf, storedAt, NoKind, Unfit}
 use Rattle.telegram.specs.declared.Fields.{Fields}
-use Rattle.telegram.specs.declared.Reading.the-variants.{Telegram}
 use Rattle.values.specs.declared.Value.{Value}
 use Rattle.bench.proofs.Answering.{refused-up}
-use Rattle.bench.specs.Build.{buildAnswer, buildBench, IsNotAModule, makeRows, makeTests, makeRefusal, Makes, IsWrongKind, IsWrongRights, IsThere, IsFull, addRows, addTests, addRefusal, withRegister, Adds, IsNotHeld, IsUnfit, setRows, setTests, setRefusal, Sets}
-use Rattle.bench.specs.Register.{emptyBench, registerAt, heldCount, placeOf, isHeld, withValue, Numbers, Looks}
-use Rattle.bench.specs.Take.{replyOf, IsOtherAddress, IsNotARequest, IsNoRoom, takeRows, unreadRows, silenceRows, takeTests, requestRefusal, unread, takeRefusal, takeAnswer, takeBench, takeRoom, Takes}
+use Rattle.bench.specs.Take.{replyOf, IsOtherAddress, IsNotARequest, IsNoRoom, takeRows, silenceRows, takeTests, requestRefusal, takeRefusal, takeAnswer, takeBench, takeRoom, Takes}
 use Rattle.bench.specs.declared.Bench.{Bench}
 use Rattle.bench.specs.declared.Fault.{Fault}
 use Rattle.bench.specs.declared.Fault.the-variants.{Unread}
@@ -45,18 +38,11 @@ use Rattle.bench.specs.declared.Building.{Building}
 use Rattle.bench.specs.declared.Building.the-variants.{Done, Refused}
 use Rattle.bench.specs.declared.Taking.{Taking}
 use Rattle.bench.specs.declared.Taking.the-variants.{Answered, Silent}
-use Rattle.bench.specs.declared.Seen.{Seen}
 use Rattle.bench.specs.declared.AfterBuild.{AfterBuild}
 use Rattle.bench.specs.declared.AfterTake.{AfterTake}
+use Rattle.telegram.specs.declared.Fault.the-variants as unread
 
 -- ---- what decides a row
-
-pub decides-both : {a b : Bool} {P Q : Type 0} → Decides a P → Decides b Q → Decides (a && b) (P × Q)
-decides-both {a} {b} p q = go a b p q
-  where
-    go : (a b : Bool) {P Q : Type 0} → Decides a P → Decides b Q → Decides (a && b) (P × Q)
-    go true b p q = record { so = λ e. (p .so refl, q .so e); not-so = λ e h. q .not-so e (h .1) }
-    go false b p q = record { so = λ e. absurd (true≢false (sym e)); not-so = λ e h. p .not-so refl (h .0) }
 
 decides-one-not : {a b : Bool} {P Q : Type 0} → Decides a P → Decides b Q → Decides (not (a && b)) ((P → ⊥) ⊎ (Q → ⊥))
 decides-one-not {a} {b} p q = go a b p q
@@ -87,18 +73,18 @@ decides-held bench number = record { so = found; not-so = missed }
 pub make-ranked : (address : ℕ) → Ranked (makeRows address) (makeRefusal address)
 unfolding makeRows makeRefusal IsNotAModule
 make-ranked address =
-    ranked (makeTests address) (makeRows address) (decides-not (decides-both (decides-le 1 address) (decides-le address 160)), (refl, λ n₃₄. tt))
+    ranked (makeTests address) (makeRows address) (decides-not (decides-and (decides-le 1 address) (decides-le address 160)) otherwise λ n₃₄. tt)
 
 -- 30 to 33
 pub add-ranked : (bench : Bench) (number kind rights : ℕ) → Ranked (addRows bench number kind rights) (addRefusal bench number kind rights)
 unfolding addRows addRefusal IsWrongKind IsWrongRights IsThere IsFull
 add-ranked bench number kind rights =
     ranked (addTests bench number kind rights) (addRows bench number kind rights) (
-      decides-not (decides-kind kind),
-      (
-        refl,
-        λ n₃₀. (decides-lt 7 rights, (refl, λ n₃₁. (decides-held bench number, (refl, λ n₃₂. (decides-le 32 (bench .count), (refl, λ n₃₃. tt)))))),
-      ),
+    decides-not (decides-kind kind) otherwise λ n₃₀.
+    decides-lt 7 rights otherwise λ n₃₁.
+    decides-held bench number otherwise λ n₃₂.
+    decides-le 32 (bench .count) otherwise λ n₃₃.
+    tt
     )
 
 -- 38, then 43
@@ -106,14 +92,9 @@ pub set-ranked : (bench : Bench) (number : ℕ) (value : Value) → Ranked (setR
 unfolding setRows setRefusal IsNotHeld IsUnfit NoKind Unfit
 set-ranked bench number value =
     ranked (setTests bench number value) (setRows bench number value) (
-      decides-not (decides-held bench number),
-      (
-        refl,
-        λ n₃₈. (
-          decides-one-not (decides-kind (registerAt bench (placeOf bench number) .kind)) (decides-fits (registerAt bench (placeOf bench number) .kind) value),
-          (refl, λ n₄₃. tt),
-        ),
-      ),
+    decides-not (decides-held bench number) otherwise λ n₃₈.
+    decides-one-not (decides-kind (registerAt bench (placeOf bench number) .kind)) (decides-fits (registerAt bench (placeOf bench number) .kind) value) otherwise λ n₄₃.
+    tt
     )
 
 -- 35 to 37
@@ -121,51 +102,21 @@ pub request-ranked : (bench : Bench) (t : Fields) (bytes : List ℕ) (room : ℕ
 unfolding takeRows requestRefusal IsOtherAddress IsNotARequest IsNoRoom
 request-ranked bench t bytes room =
     ranked (takeTests bench t bytes room) (takeRows bench t bytes room) (
-      decides-not (decides-eq (t .destination) (bench .address)),
-      (
-        refl,
-        λ n₃₅. (
-          decides-or (decides-eq (t .sort) 0)
-              (decides-or (decides-eq (t .sort) 1)
-              (decides-or (decides-eq (t .sort) 2) (decides-or (decides-eq (t .sort) 3) (decides-eq (t .sort) 8)))),
-          (refl, λ n₃₆. (decides-lt room (length (replyOf bench t bytes)), (refl, λ n₃₇. tt))),
-        ),
-      ),
+    decides-not (decides-eq (t .destination) (bench .address)) otherwise λ n₃₅.
+    decides-or (decides-eq (t .sort) 0)
+    (decides-or (decides-eq (t .sort) 1)
+    (decides-or (decides-eq (t .sort) 2) (decides-or (decides-eq (t .sort) 3) (decides-eq (t .sort) 8)))) otherwise λ n₃₆.
+    decides-lt room (length (replyOf bench t bytes)) otherwise λ n₃₇.
+    tt
     )
-
--- the reader's rows passed up, and rows that come after others
-first-up : (rs : List (Row Unreadable)) (f : Unreadable) → First rs f → First (unreadRows rs) (Unread f)
-first-up [] f p = p
-first-up (r ∷ rs) f p = ⊎-elim (λ h. inl (h .0, ap Unread (h .1))) (λ h. inr (h .0, first-up rs f (h .1))) p
-
-none-up : (rs : List (Row Unreadable)) → NoRow rs → NoRow (unreadRows rs)
-none-up [] p = tt
-none-up (r ∷ rs) p = (p .0, none-up rs (p .1))
-
-ranked-up : (rs : List (Row Unreadable)) (o : Option Unreadable) → Ranked rs o → Ranked (unreadRows rs) (unread o)
-ranked-up rs none p = none-up rs p
-ranked-up rs (some f) p = first-up rs f p
-
-first-early : {F : Type 0} (rs ss : List (Row F)) (f : F) → First rs f → First (rs ++ ss) f
-first-early [] ss f p = absurd p
-first-early (r ∷ rs) ss f p = ⊎-elim inl (λ h. inr (h .0, first-early rs ss f (h .1))) p
-
-later : {F : Type 0} (rs ss : List (Row F)) (o : Option F) → NoRow rs → Ranked ss o → Ranked (rs ++ ss) o
-later [] ss o n p = p
-later (r ∷ rs) ss none n p = (n .0, later rs ss none (n .1) p)
-later (r ∷ rs) ss (some f) n p = inr (n .0, later rs ss (some f) (n .1) p)
-
-ranked-append : {F : Type 0} (rs ss : List (Row F)) (o p : Option F) → Ranked rs o → Ranked ss p → Ranked (rs ++ ss) (orLater o p)
-ranked-append rs ss none p a b = later rs ss p a b
-ranked-append rs ss (some f) p a b = first-early rs ss f a
 
 -- 1 to 9, then 35 to 37
 pub take-ranked : (bench : Bench) (frame : List ℕ) (room : ℕ) → Ranked (silenceRows bench frame room) (takeRefusal bench frame room)
 unfolding silenceRows takeRefusal
 take-ranked bench frame room =
-    ranked-append (unreadRows (readRows frame 240)) (takeRows bench (fieldsOf (messageOf frame)) (dataOf (messageOf frame)) room) (unread (readRefusal frame 240))
-    (requestRefusal bench (fieldsOf (messageOf frame)) (dataOf (messageOf frame)) room) (ranked-up (readRows frame 240) (readRefusal frame 240) (read-ranked frame 240))
-    (request-ranked bench (fieldsOf (messageOf frame)) (dataOf (messageOf frame)) room)
+    ranked-append (passedUp Unread (readRows frame 240)) (takeRows bench (fieldsOf (messageOf frame)) (dataOf (messageOf frame)) room) (raised Unread (readRefusal frame 240))
+    (requestRefusal bench (fieldsOf (messageOf frame)) (dataOf (messageOf frame)) room) (ranked-up Unread (readRows frame 240) (readRefusal frame 240) (read-ranked frame 240))
+    (λ none-before. request-ranked bench (fieldsOf (messageOf frame)) (dataOf (messageOf frame)) room)
 
 -- and so of the answers, both ways: `.0` for each number, `.1` for none
 module _ (rs : List (Row Fault)) (o : Option Fault) (r : Ranked rs o) where

@@ -5,3 +5,5 @@ pub mod Answering
 pub mod Laws
 pub mod Rules
 pub mod Kept
+pub mod Written
+pub mod Silence

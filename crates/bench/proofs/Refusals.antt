@@ -7,15 +7,13 @@ use Prim.Native.Nat.{ℕ, _≤_, _<_}
 use native.Mathlib.Omega.{arith}
 use borrow.Author.Tests.{lt-ltb, le-ltb, le-leb, lt-leb}
 use Rattle.values.specs.declared.Stored.{Stored}
-use Rattle.values.specs.Values.{Keeps, sizeOf, storedAt, storedValue}
+use Rattle.values.specs.Values.{Keeps, sizeOf, storedAt, storedValue, isKind, fits, storedRefusal}
 use Rattle.values.specs.declared.Fault.{Fault as Unstored}
 use Rattle.rows.proofs.Laws.{clash}
 use Rattle.values.proofs.Refusals.{stored-none, stored-as, stored-refused}
-use Rattle.values.specs.Values.{isKind, fits, storedRefusal}
 use Rattle.values.specs.declared.Value.{Value}
 use Rattle.values.specs.declared.Fault.the-variants.{UnknownKind}
-use Rattle.bench.specs.Build.{Sets}
-use Rattle.bench.specs.Build.{buildAnswer, buildBench, makeRefusal, addRefusal, setRefusal}
+use Rattle.bench.specs.Build.{Sets, buildAnswer, buildBench, makeRefusal, addRefusal, setRefusal}
 use Rattle.bench.specs.Register.{registerAt, placeOf, isHeld, heldCount, withValue}
 use Rattle.bench.specs.declared.Bench.{Bench}
 use Rattle.bench.specs.declared.Fault.{Fault}
@@ -23,7 +21,7 @@ use Rattle.bench.specs.declared.Fault.the-variants.{WrongKind, WrongRigh
 use Rattle.bench.specs.declared.Building.the-variants.{Done, Refused}
 use Rattle.bench.specs.declared.AfterBuild.{AfterBuild}
 use Rattle.bench.proofs.Places.{held-so}
-use Rattle.bench.specs.declared.Register.{Register}
+use Rattle.deeds.specs.declared.Register.{Register}
 use Rattle.values.specs.declared.Stored.the-variants as stored
 use Rattle.values.specs.declared.Fault.the-variants as values
 

@@ -1,120 +1,41 @@
 -- The four rules of a telegram for the bench, in the paper's words, and what every reply is.
 -- Assumes nothing.
+use Rattle.deeds.specs.Deeds.{HasRight, nack, ack, datagram, heldDeed}
+use Rattle.deeds.proofs.Laws.{MayRead, MayWrite, MayChange, read-deed, write-deed, set-deed, clear-deed, toggle-deed, other-deed, Small}
+use Rattle.rows.proofs.Laws.{told-true, told-false, done-exactly}
 use Rattle.telegram.specs.declared.Reading.{Reading}
-use Rattle.telegram.specs.Read.{Reads}
+use Rattle.telegram.specs.Read.{Reads, fieldsOf, dataOf, readFrame}
 use mathlib.Core.Path.{_≡_, refl, sym, _∙_}
-use mathlib.Core.Bool.{Bool, true, false, cond, _&&_}
+use mathlib.Core.Bool.{Bool, true, false, cond}
 use mathlib.Core.List.{List, []}
-use mathlib.Core.Logic.{_⊎_, inl, inr}
 use mathlib.Core.Option.{none}
-use Prim.Native.Nat.{ℕ, _/_, _%_, _≤_}
+use Prim.Native.Nat.{ℕ, _≤_}
 use native.Mathlib.Omega.{arith}
-use borrow.Author.Tests.{eqb-true}
-use lib.Dec.{eqb}
 use lib.ListN.{length, take}
 use lib.Seq.{set-getD}
 use Rattle.frame.specs.Frame.{messageOf}
 use Rattle.lent.specs.Lent.{over}
-use Rattle.rows.proofs.Laws.{Decides, decides-eq, told-false, done-exactly}
 use Rattle.telegram.proofs.Judge.{reading-telegram}
 use Rattle.telegram.proofs.Laws.{reads-back}
-use Rattle.telegram.specs.Read.{fieldsOf, dataOf, readFrame}
 use Rattle.telegram.specs.Write.{telegramFor}
 use Rattle.values.proofs.Bytes.{length-bytesOf}
 use Rattle.values.specs.Values.{sizeOf, natural, bytesOf, setBits, clearBits, toggleBits}
 use Rattle.telegram.specs.declared.Fields.{Fields}
 use Rattle.telegram.specs.declared.Reading.the-variants.{Telegram}
 use Rattle.bench.proofs.Answering.{wrote-so, addressed}
-use Rattle.bench.proofs.Deeds.{read-allowed, write-allowed, deed-read, Small, deed-small}
-use Rattle.bench.proofs.Laws.{decides-both, decides-held, request-ranked}
-use Rattle.bench.specs.Register.{Held, noRegister, registerAt, placeOf, isHeld, HasRight, hasRight, withValue}
-use Rattle.bench.specs.Take.{nack, ack, datagram, readDeed, writeDeed, heldDeed, deedOf, replyFor, replyOf, IsOtherAddress, IsNotARequest, IsNoRoom, takeRows, requestRefusal, takeRefusal, doneTo, Takes}
-use Rattle.bench.specs.declared.Register.{Register}
+use Rattle.bench.proofs.Deeds.{deed-small}
+use Rattle.bench.proofs.Laws.{decides-held, request-ranked}
+use Rattle.bench.specs.Register.{Held, noRegister, registerAt, placeOf, isHeld, withValue}
+use Rattle.bench.specs.Take.{deedOf, replyFor, replyOf, IsOtherAddress, IsNotARequest, IsNoRoom, takeRows, requestRefusal, takeRefusal, doneTo, Takes}
+use Rattle.deeds.specs.declared.Register.{Register}
 use Rattle.bench.specs.declared.Bench.{Bench}
 use Rattle.bench.specs.declared.Taking.the-variants.{Answered}
-use Rattle.bench.specs.declared.Deed.{Deed}
+use Rattle.deeds.specs.declared.Deed.{Deed}
 use Rattle.bench.specs.declared.AfterTake.{AfterTake}
 
 -- the register that a number names
 abbrev pub named : Bench → ℕ → Register
 named bench number = registerAt bench (placeOf bench number)
-
--- ---- when each rule applies to a held register
-
--- "read with the right and no data"
-abbrev pub MayRead : Register → ℕ → List ℕ → Type 0
-MayRead register sort bytes = (sort ≡ 4) × HasRight register 1 × (length bytes ≡ 0)
-
--- "write with the right and exactly the kind's size of data"
-abbrev pub MayWrite : Register → ℕ → List ℕ → Type 0
-MayWrite register sort bytes = (sort ≡ 5) × HasRight register 2 × (length bytes ≡ sizeOf (register .kind))
-
--- "set, clear or toggle with right 4 and that size"
-abbrev pub MayChange : Register → ℕ → List ℕ → Type 0
-MayChange register sort bytes = ((sort ≡ 6) ⊎ ((sort ≡ 7) ⊎ (sort ≡ 9))) × HasRight register 4 × (length bytes ≡ sizeOf (register .kind))
-
--- ---- the deed of each
-
-pub told : {b : Bool} {P : Type 0} → Decides b P → P → b ≡ true
-told {b} {P} d p = go b d
-  where
-    go : (t : Bool) → Decides t P → t ≡ true
-    go true d = refl
-    go false d = absurd (d .not-so refl p)
-
-choose : {A : Type 0} (b : Bool) (x y z : A) → (b ≡ true → x ≡ z) → y ≡ z → cond b x y ≡ z
-choose true x y z p q = p refl
-choose false x y z p q = q
-
-module _ (register : Register) (sort : ℕ) (bytes : List ℕ) where
-  read-deed : MayRead register sort bytes → heldDeed register sort bytes ≡ datagram register
-  read-deed m =
-      sym (deed-read register sort bytes (m .0))
-      ∙ sym (read-allowed register (length bytes) (hasRight register 1) _ refl (told (decides-eq (register .rights / 1 % 2) 1) (m .1)) (m .2) refl)
-
-  changed : (right value : ℕ) → HasRight register right → length bytes ≡ sizeOf (register .kind) → writeDeed register right (length bytes) value ≡ ack value
-  changed right value h n =
-      sym (write-allowed register (length bytes) right value (hasRight register right) refl (told (decides-eq (register .rights / right % 2) 1) h) n)
-
-  write-deed : MayWrite register sort bytes → heldDeed register sort bytes ≡ ack (natural bytes)
-  unfolding heldDeed
-  write-deed m = rw (m .0) (changed 2 (natural bytes) (m .1) (m .2))
-
-  module _ (h : HasRight register 4) (n : length bytes ≡ sizeOf (register .kind)) where
-    set-deed : sort ≡ 6 → heldDeed register sort bytes ≡ ack (setBits (register .value) (natural bytes))
-    unfolding heldDeed
-    set-deed e = rw e (changed 4 (setBits (register .value) (natural bytes)) h n)
-
-    clear-deed : sort ≡ 7 → heldDeed register sort bytes ≡ ack (clearBits (register .value) (natural bytes))
-    unfolding heldDeed
-    clear-deed e = rw e (changed 4 (clearBits (register .value) (natural bytes)) h n)
-
-    toggle-deed : sort ≡ 9 → heldDeed register sort bytes ≡ ack (toggleBits (register .value) (natural bytes))
-    unfolding heldDeed
-    toggle-deed e = rw e (changed 4 (toggleBits (register .value) (natural bytes)) h n)
-
-  unread-deed : (HasRight register 1 × (length bytes ≡ 0) → ⊥) → readDeed register (length bytes) ≡ nack (register .value)
-  unfolding readDeed
-  unread-deed n =
-      choose (hasRight register 1 && eqb (length bytes) 0) (datagram register) (nack (register .value)) (nack (register .value))
-      (λ e. absurd (n (decides-both (decides-eq (register .rights / 1 % 2) 1) (decides-eq (length bytes) 0) .so e))) refl
-
-  unwritten-deed : (right value : ℕ) → (HasRight register right × (length bytes ≡ sizeOf (register .kind)) → ⊥)
-      → writeDeed register right (length bytes) value ≡ nack (register .value)
-  unfolding writeDeed
-  unwritten-deed right value n =
-      choose (hasRight register right && eqb (length bytes) (sizeOf (register .kind))) (ack value) (nack (register .value)) (nack (register .value))
-      (λ e. absurd (n (decides-both (decides-eq (register .rights / right % 2) 1) (decides-eq (length bytes) (sizeOf (register .kind))) .so e))) refl
-
-  other-deed : (MayRead register sort bytes → ⊥) → (MayWrite register sort bytes → ⊥) → (MayChange register sort bytes → ⊥)
-      → heldDeed register sort bytes ≡ nack (register .value)
-  unfolding heldDeed
-  other-deed no-read no-write no-change =
-      choose (eqb sort 4) _ _ _ (λ e. unread-deed (λ h. no-read (eqb-true sort 4 e, h .0, h .1)))
-      (choose (eqb sort 5) _ _ _ (λ e. unwritten-deed 2 (natural bytes) (λ h. no-write (eqb-true sort 5 e, h .0, h .1)))
-      (choose (eqb sort 6) _ _ _ (λ e. unwritten-deed 4 (setBits (register .value) (natural bytes)) (λ h. no-change (inl (eqb-true sort 6 e), h .0, h .1)))
-      (choose (eqb sort 7) _ _ _ (λ e. unwritten-deed 4 (clearBits (register .value) (natural bytes)) (λ h. no-change (inr (inl (eqb-true sort 7 e)), h .0, h .1)))
-      (choose (eqb sort 9) _ _ _ (λ e. unwritten-deed 4 (toggleBits (register .value) (natural bytes)) (λ h. no-change (inr (inr (eqb-true sort 9 e)), h .0, h .1))) refl))))
 
 -- ---- a telegram that the bench answers
 
@@ -159,11 +80,11 @@ module _ (bench : Bench) (frame : List ℕ) (t : Fields) (room : List ℕ) (may 
     held-deed : Held bench (t .register) → (deed : Deed) → heldDeed (named bench (t .register)) (t .sort) (dataOf (messageOf frame)) ≡ deed
         → deedOf bench t (dataOf (messageOf frame)) ≡ deed
     unfolding deedOf
-    held-deed h deed e = rw (told (decides-held bench (t .register)) h) e
+    held-deed h deed e = rw (told-true (decides-held bench (t .register)) h) e
 
     changes : Held bench (t .register) → (deed : Deed) → doneTo bench (t .register) deed ≡ withValue bench (placeOf bench (t .register)) (deed .value)
     unfolding doneTo
-    changes h deed = rw (told (decides-held bench (t .register)) h)
+    changes h deed = rw (told-true (decides-held bench (t .register)) h)
 
     stays : (deed : Deed) → deed .value ≡ named bench (t .register) .value → doneTo bench (t .register) deed ≡ bench
     unfolding doneTo

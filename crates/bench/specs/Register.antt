@@ -1,14 +1,14 @@
 -- The bench module's registers: "one address and up to 32 registers, each with a kind, rights and a value, 0 when added."
--- A value is kept as the number that the register's bytes are, lowest first.
+-- Rights, and what a request does to a register, are in deeds.
 -- Assumes nothing.
 use mathlib.Core.Path.{_≡_}
 use mathlib.Core.Bool.{Bool, true, false}
-use Prim.Native.Nat.{ℕ, _/_, _%_, _<_, min}
+use Prim.Native.Nat.{ℕ, _<_, min}
 use lib.Dec.{eqb, ltb}
 use lib.ListN.{getD, replicate, set}
 use Rattle.first.specs.First.{firstPlace}
+use Rattle.deeds.specs.declared.Register.{Register}
 use Rattle.telegram.specs.Read.{faultNumber as readNumber}
-use Rattle.bench.specs.declared.Register.{Register}
 use Rattle.bench.specs.declared.Bench.{Bench}
 use Rattle.bench.specs.declared.Fault.{Fault}
 use Rattle.bench.specs.declared.Fault.the-variants.{Unread, WrongKind, WrongRights, AlreadyThere, Full, NotAModule, OtherAddress, NotARequest, NoRoom, NotHeld, DoesNotFit}
@@ -39,13 +39,6 @@ Held bench number = (place : ℕ) × (place < heldCount bench) × (registerAt be
 
 abbrev pub isHeld : Bench → ℕ → Bool
 isHeld bench number = ltb (placeOf bench number) (heldCount bench)
-
--- "Rights: 1 read, 2 write, 4 bit writes, summed."
-abbrev pub HasRight : Register → ℕ → Type 0
-HasRight register right = register .rights / right % 2 ≡ 1
-
-abbrev pub hasRight : Register → ℕ → Bool
-hasRight register right = eqb (register .rights / right % 2) 1
 
 -- the bench with another value in a register that it holds; every other register stays
 abbrev pub withValue : Bench → ℕ → ℕ → Bench

@@ -7,10 +7,10 @@ use lib.ListN.{length}
 use Rattle.frame.specs.Frame.{AllBytes}
 use Rattle.values.specs.Values.{sizeOf}
 use Rattle.values.specs.declared.Value.{Value}
+use Rattle.deeds.specs.declared.Register.{Register}
 use Rattle.bench.specs.Build.{Adds, Sets}
 use Rattle.bench.specs.Register.{registerAt}
 use Rattle.bench.specs.Take.{Takes}
-use Rattle.bench.specs.declared.Register.{Register}
 use Rattle.bench.specs.declared.Bench.{Bench}
 use Rattle.bench.specs.declared.AfterBuild.{AfterBuild}
 use Rattle.bench.specs.declared.AfterTake.{AfterTake}

@@ -2,59 +2,30 @@
 -- Assumes nothing.
 use mathlib.Core.Path.{_≡_}
 use mathlib.Core.Logic.{_≢_, _⊎_}
-use mathlib.Core.Bool.{Bool, cond, not, _||_, _&&_}
+use mathlib.Core.Bool.{Bool, cond, not, _||_}
 use mathlib.Core.List.{List, [], _∷_, _++_}
 use mathlib.Core.Option.{Option, some, none}
 use Prim.Native.Nat.{ℕ, _<_}
 use lib.Dec.{eqb, ltb}
 use lib.ListN.{length}
 use Rattle.lent.specs.Lent.{over}
-use Rattle.rows.specs.Rows.{Row, row, Test, test, firstOf, orLater}
+use Rattle.rows.specs.Rows.{Row, row, Test, test, firstOf, orLater, passedUp, raised}
 use Rattle.frame.specs.Frame.{messageOf}
 use Rattle.telegram.specs.Read.{readRows, readRefusal, fieldsOf, dataOf}
 use Rattle.telegram.specs.Write.{telegramFor}
-use Rattle.telegram.specs.declared.Fault.{Fault as Unreadable}
 use Rattle.telegram.specs.declared.Fields.{Fields}
-use Rattle.values.specs.Values.{sizeOf, natural, bytesOf, setBits, clearBits, toggleBits}
-use Rattle.bench.specs.declared.Register.{Register}
+use Rattle.values.specs.Values.{bytesOf}
+use Rattle.deeds.specs.Deeds.{nack, heldDeed}
+use Rattle.deeds.specs.declared.Deed.{Deed}
 use Rattle.bench.specs.declared.Bench.{Bench}
-use Rattle.bench.specs.declared.Deed.{Deed}
 use Rattle.bench.specs.declared.Fault.{Fault}
 use Rattle.bench.specs.declared.Fault.the-variants.{Unread, OtherAddress, NotARequest, NoRoom}
 use Rattle.bench.specs.declared.Taking.{Taking}
 use Rattle.bench.specs.declared.Taking.the-variants.{Answered, Silent}
 use Rattle.bench.specs.declared.AfterTake.{AfterTake}
-use Rattle.bench.specs.Register.{registerAt, placeOf, isHeld, hasRight, withValue}
+use Rattle.bench.specs.Register.{registerAt, placeOf, isHeld, withValue}
 
--- ---- what a request does to a register: the reply's type, how many bytes of the value it carries, and the value afterwards
-
--- "Ack and nack carry the register and no data."
-abbrev pub nack : ℕ → Deed
-nack value = record { sort = 0; size = 0; value = value }
-
-abbrev pub ack : ℕ → Deed
-ack value = record { sort = 3; size = 0; value = value }
-
-abbrev pub datagram : Register → Deed
-datagram register = record { sort = 8; size = sizeOf (register .kind); value = register .value }
-
--- "read with the right and no data: a datagram with the value"; n is how many data bytes there are
-unfoldable pub readDeed : Register → ℕ → Deed
-readDeed register n = cond (hasRight register 1 && eqb n 0) (datagram register) (nack (register .value))
-
--- "write with the right and exactly the kind's size of data: ack, and the value is those bytes";
--- "set, clear or toggle with right 4 and that size: ack"
-unfoldable pub writeDeed : Register → ℕ → ℕ → ℕ → Deed
-writeDeed register right n value = cond (hasRight register right && eqb n (sizeOf (register .kind))) (ack value) (nack (register .value))
-
--- "anything else [..]: nack, nothing changed"
-unfoldable pub heldDeed : Register → ℕ → List ℕ → Deed
-heldDeed register sort bytes =
-    cond (eqb sort 4) (readDeed register (length bytes))
-    (cond (eqb sort 5) (writeDeed register 2 (length bytes) (natural bytes))
-    (cond (eqb sort 6) (writeDeed register 4 (length bytes) (setBits (register .value) (natural bytes)))
-    (cond (eqb sort 7) (writeDeed register 4 (length bytes) (clearBits (register .value) (natural bytes)))
-    (cond (eqb sort 9) (writeDeed register 4 (length bytes) (toggleBits (register .value) (natural bytes))) (nack (register .value))))))
+-- ---- what a request does and what is answered
 
 -- "an unknown register included"
 unfoldable pub deedOf : Bench → Fields → List ℕ → Deed
@@ -86,14 +57,9 @@ unfoldable pub takeRows : Bench → Fields → List ℕ → ℕ → List (Row Fa
 takeRows bench t bytes room =
     row (IsOtherAddress bench t) OtherAddress ∷ row (IsNotARequest t) NotARequest ∷ row (IsNoRoom (replyOf bench t bytes) room) NoRoom ∷ []
 
--- the reader's rows, passed up whole
-abbrev pub unreadRows : List (Row Unreadable) → List (Row Fault)
-unreadRows [] = []
-unreadRows (r ∷ rs) = row (r .holds) (Unread (r .gives)) ∷ unreadRows rs
-
--- what means silence, in the call's order: "It reads with 240 bytes of room of its own", and then 35 to 37
+-- what means silence, in the call's order: the reader's rows, passed up whole ("It reads with 240 bytes of room of its own"), and then 35 to 37
 unfoldable pub silenceRows : Bench → List ℕ → ℕ → List (Row Fault)
-silenceRows bench frame room = unreadRows (readRows frame 240) ++ takeRows bench (fieldsOf (messageOf frame)) (dataOf (messageOf frame)) room
+silenceRows bench frame room = passedUp Unread (readRows frame 240) ++ takeRows bench (fieldsOf (messageOf frame)) (dataOf (messageOf frame)) room
 
 abbrev pub isAnswer : ℕ → Bool
 isAnswer sort = eqb sort 0 || (eqb sort 1 || (eqb sort 2 || (eqb sort 3 || eqb sort 8)))
@@ -113,13 +79,8 @@ requestRefusal bench t bytes room = firstOf (takeTests bench t bytes room)
 abbrev pub roomRefusal : List ℕ → ℕ → Option Fault
 roomRefusal reply room = firstOf (test (ltb room (length reply)) NoRoom ∷ [])
 
--- the reader's refusal, passed up whole
-abbrev pub unread : Option Unreadable → Option Fault
-unread (some f) = some (Unread f)
-unread none = none
-
 unfoldable pub takeRefusal : Bench → List ℕ → ℕ → Option Fault
-takeRefusal bench frame room = orLater (unread (readRefusal frame 240)) (requestRefusal bench (fieldsOf (messageOf frame)) (dataOf (messageOf frame)) room)
+takeRefusal bench frame room = orLater (raised Unread (readRefusal frame 240)) (requestRefusal bench (fieldsOf (messageOf frame)) (dataOf (messageOf frame)) room)
 
 -- ---- the answer, the bench and the buffer, each from the refusal
 

@@ -1,7 +1,7 @@
 // The registers that a bench holds. Nothing else touches its array.
 use crate::Bench;
-use crate::Register;
 use crate::Seen;
+use deeds::Register;
 ghost use Rattle.bench.specs.Register.{Looks, emptyBench, registerAt, heldCount, placeOf, withValue};
 ghost use Rattle.bench.specs.Build.{withRegister};
 ghost use mathlib.Core.Path.{_≡_};

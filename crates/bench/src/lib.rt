@@ -7,18 +7,10 @@ mod request;
 pub use build::add;
 pub use build::make;
 pub use build::set;
+pub use deeds::Register;
 pub use held::look;
 pub use request::take;
 ghost use Rattle.bench.specs.Register.{Numbers};
-
-// A register that the bench holds. Rights are 1 read, 2 write, 4 bit writes, summed; the value is
-// the number that its bytes are, lowest first.
-pub struct Register {
-    pub number: u8,
-    pub kind: u8,
-    pub rights: u8,
-    pub value: u64,
-}
 
 // The first `count` registers are held.
 pub struct Bench {
@@ -57,14 +49,6 @@ pub enum Taking {
 pub enum Seen {
     Held(Register),
     NotHeld,
-}
-
-// What a request does: the type of the reply, how many bytes of the value it carries, and the
-// register's value afterwards.
-pub struct Deed {
-    pub sort: u8,
-    pub size: usize,
-    pub value: u64,
 }
 
 // A call's answer, with the bench as it is afterwards.

@@ -1,14 +1,12 @@
 // A telegram for the bench: read, judged, done and answered.
 use crate::AfterTake;
 use crate::Bench;
-use crate::Deed;
 use crate::Fault;
-use crate::Register;
 use crate::Taking;
 use crate::held;
+use deeds::Deed;
 use telegram::Fields;
-ghost use Rattle.bench.specs.Take.{Takes, Requests, Answers, nack, readDeed, writeDeed, heldDeed, deedOf, replyFor, replyOf, doneTo, isAnswer, roomRefusal};
-ghost use Rattle.bench.specs.Register.{hasRight};
+ghost use Rattle.bench.specs.Take.{Takes, Requests, Answers, deedOf, replyFor, replyOf, doneTo, isAnswer, roomRefusal};
 ghost use Rattle.bench.specs.declared.Taking.the-variants.{Silent};
 ghost use mathlib.Core.Path.{_≡_};
 ghost use mathlib.Core.Logic.{_≢_};
@@ -113,84 +111,12 @@ fn deed(bench: Bench, t: Fields, bytes: &[u8]) -> Deed
 {
     let place = held::place_of(bench, t.register);
     if place < held::held_count(bench) {
-        held_deed(held::register_at(bench, place), t.sort, bytes)
+        deeds::held_deed(held::register_at(bench, place), t.sort, bytes)
     } else {
-        refusal(0)
-    }
-}
-
-fn refusal(value: u64) -> Deed
-    ensures { λ r. ⌜ r ≡ nack value ⌝ }
-{
-    Deed {
-        sort: 0,
-        size: 0,
-        value,
-    }
-}
-
-// What a request does to a register that is held.
-fn held_deed(register: Register, sort: u8, bytes: &[u8]) -> Deed
-    ensures { λ r. ⌜ r ≡ heldDeed register sort (now (bytes .entry)) ⌝ }
-{
-    let n = bytes.len();
-    let v = register.value;
-    let mask = values::load(bytes);
-    if sort == 4 {
-        return read_deed(register, n);
-    }
-    if sort == 5 {
-        return write_deed(register, 2, n, mask);
-    }
-    if sort == 6 {
-        return write_deed(register, 4, n, values::set_bits(v, mask));
-    }
-    if sort == 7 {
-        return write_deed(register, 4, n, values::clear_bits(v, mask));
-    }
-    if sort == 9 {
-        return write_deed(register, 4, n, values::toggle_bits(v, mask));
-    }
-    refusal(v)
-}
-
-// A read with so many data bytes.
-fn read_deed(register: Register, n: usize) -> Deed
-    ensures { λ r. ⌜ r ≡ readDeed register n ⌝ }
-{
-    if has_right(register, 1) {
-        if n == 0 {
-            return Deed {
-                sort: 8,
-                size: values::size(register.kind),
-                value: register.value,
-            };
+        Deed {
+            sort: 0,
+            size: 0,
+            value: 0,
         }
     }
-    refusal(register.value)
-}
-
-// A write of any sort that needs this right, with so many data bytes, after which the register has
-// that value.
-fn write_deed(register: Register, right: u8, n: usize, value: u64) -> Deed
-    requires { ⌜ 0 < right ⌝ }
-    ensures { λ r. ⌜ r ≡ writeDeed register right n value ⌝ }
-{
-    if has_right(register, right) {
-        if n == values::size(register.kind) {
-            return Deed {
-                sort: 3,
-                size: 0,
-                value,
-            };
-        }
-    }
-    refusal(register.value)
-}
-
-fn has_right(register: Register, right: u8) -> bool
-    requires { ⌜ 0 < right ⌝ }
-    ensures { λ r. ⌜ r ≡ hasRight register right ⌝ }
-{
-    register.rights / right % 2 == 1
 }

@@ -3,9 +3,8 @@
 -- bits of the message before substitution, each byte taken highest bit first. Frame it again and offer it with 240 bytes of room. It is
 -- refused as a check fault, closes no ticket and changes no register."
 -- Assumes nothing.
-use mathlib.Core.Path.{_≡_, refl, sym, ap, _∙_}
+use mathlib.Core.Path.{_≡_, ap, _∙_}
 use mathlib.Core.List.{List}
-use mathlib.Core.Logic.{_≢_}
 use Prim.Native.Nat.{ℕ, _≤_}
 use lib.ListN.{length}
 use Rattle.frame.specs.Frame.{framed, messageOf}

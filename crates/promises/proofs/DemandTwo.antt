@@ -2,9 +2,8 @@
 -- written reads back the same, given room for its data, no start or end byte stands inside a frame, and only that frame means that message.
 -- A reply closes exactly the ticket open on its host address, and only where module, reply kind and register fit it."
 -- Assumes nothing.
-use mathlib.Core.Path.{_≡_, refl, sym, ap, _∙_}
+use mathlib.Core.Path.{_≡_, _∙_}
 use mathlib.Core.List.{List}
-use mathlib.Core.Logic.{_≢_}
 use mathlib.Core.Option.{none}
 use Prim.Native.Nat.{ℕ}
 use lib.ListN.{length}
@@ -12,7 +11,7 @@ use Rattle.frame.specs.Frame.{messageOf}
 use Rattle.lent.specs.Lent.{over}
 use Rattle.rows.proofs.Laws.{done-exactly}
 use Rattle.telegram.proofs.Judge.{reading-telegram}
-use Rattle.telegram.specs.Read.{fieldsOf, dataOf, readFrame}
+use Rattle.telegram.specs.Read.{dataOf, readFrame}
 use Rattle.telegram.specs.declared.Fields.{Fields}
 use Rattle.telegram.specs.declared.Reading.the-variants.{Telegram}
 use Rattle.desk.proofs.Laws.{ClosedAlone, closes-alone}

@@ -1,40 +1,38 @@
 -- End to end: a request that was opened at the desk, the reply of a bench at that module's address, and the ticket that the reply closes.
 -- Assumes nothing.
-use mathlib.Core.Path.{_≡_, refl, sym, ap, _∙_}
+use mathlib.Core.Path.{_≡_, refl, sym, _∙_}
 use mathlib.Core.Bool.{Bool, true, false, cond, _&&_}
 use mathlib.Core.List.{List}
 use mathlib.Core.Logic.{_≢_, _⊎_, inl, inr, ⊎-elim}
 use mathlib.Core.Option.{some, none}
-use Prim.Native.Nat.{ℕ, _+_, _/_, _%_, _≤_, _<_}
+use Prim.Native.Nat.{ℕ, _+_, _≤_, _<_}
 use native.Mathlib.Omega.{arith}
 use borrow.Author.Tests.{eqb-true, eqb-false}
 use lib.Dec.{eqb}
-use lib.ListN.{length, take, replicate, length-set, length-replicate}
+use lib.ListN.{length, take, replicate, length-replicate}
 use lib.Seq.{getD-set-same}
-use Rattle.frame.proofs.Laws.{length-framed}
-use Rattle.frame.specs.Frame.{substituted, messageOf}
+use Rattle.frame.specs.Frame.{messageOf}
 use Rattle.lent.proofs.Laws.{take-over}
 use Rattle.lent.specs.Lent.{over}
-use Rattle.rows.proofs.Laws.{done-exactly, refused-exactly, decides-eq}
+use Rattle.rows.proofs.Laws.{told-true, done-exactly, refused-exactly}
 use Rattle.rows.specs.Rows.{raised}
 use Rattle.telegram.proofs.Judge.{reading-telegram}
 use Rattle.telegram.proofs.Laws.{fieldsFor, data-of-written}
 use Rattle.telegram.proofs.Sound.{messageOf-framed}
-use Rattle.telegram.proofs.Send.{length-messageFor}
 use Rattle.telegram.specs.Read.{readRefusal, fieldsOf, dataOf, roomAfter, readFrame}
 use Rattle.telegram.specs.Write.{messageFor, telegramFor}
 use Rattle.telegram.specs.declared.Fields.{Fields}
 use Rattle.telegram.specs.declared.Reading.the-variants.{Telegram}
-use Rattle.values.proofs.Bytes.{length-bytesOf}
 use Rattle.values.specs.Values.{sizeOf, bytesOf}
-use Rattle.bench.proofs.Deeds.{Small, deed-small}
+use Rattle.deeds.proofs.Laws.{read-deed}
+use Rattle.deeds.specs.Deeds.{HasRight, hasRight, nack, ack, datagram, readDeed, writeDeed, heldDeed}
+use Rattle.deeds.specs.declared.Deed.{Deed}
+use Rattle.deeds.specs.declared.Register.{Register}
 use Rattle.bench.proofs.Laws.{decides-held}
-use Rattle.bench.proofs.Rules.{named, told as told-true, MayRead, Answerable, no-refusal, reply-reads}
-use Rattle.bench.specs.Register.{Held, HasRight, hasRight, isHeld}
-use Rattle.bench.specs.Take.{nack, ack, datagram, readDeed, writeDeed, heldDeed, deedOf, replyFor, replyOf, IsNotARequest, Takes}
+use Rattle.bench.proofs.Rules.{named, Answerable, no-refusal, reply-reads}
+use Rattle.bench.specs.Register.{Held, isHeld}
+use Rattle.bench.specs.Take.{deedOf, replyOf, IsNotARequest, Takes}
 use Rattle.bench.specs.declared.Bench.{Bench}
-use Rattle.bench.specs.declared.Deed.{Deed}
-use Rattle.bench.specs.declared.Register.{Register}
 use Rattle.bench.specs.declared.Taking.the-variants.{Answered}
 use Rattle.bench.specs.declared.AfterTake.{AfterTake}
 use Rattle.request.proofs.Laws.{ask-ranked, allowed-writable}
@@ -54,7 +52,7 @@ use Rattle.desk.specs.declared.Booking.the-variants.{Booked, Refused}
 use Rattle.desk.specs.declared.AfterOpen.{AfterOpen}
 use Rattle.desk.specs.declared.AfterReply.{AfterReply}
 use Rattle.nights.proofs.Laws.{allowed-sound}
-use Rattle.nights.specs.Night.{SoundTicket, SoundDesk}
+use Rattle.nights.specs.Night.{SoundDesk}
 
 -- ---- what a bench answers is of a kind that fits what was asked
 
@@ -190,12 +188,12 @@ module _ (desk : Desk) (sound : SoundDesk desk) (job unit sort register : ℕ) (
 
     -- a read never has data (13), so a read with the right is answered by the value
     datagram-of : sort ≡ 4 → Held bench register → HasRight (named bench register) 1 → deed ≡ datagram (named bench register)
-    unfolding deedOf heldDeed readDeed askRows IsWrongData
+    unfolding deedOf askRows IsWrongData
     datagram-of is there right =
         let none-of = done-exactly (askRows job unit sort bytes wait) _ (ask-ranked job unit sort bytes wait) .0 allowed in
         let no-data : 0 < length bytes → ⊥ = λ h. none-of .1 .1 .1 .0 (inr (is, h)) in
         let empty : length bytes ≡ 0 = omega (arith, no-data) in
-        rw (told-true (decides-held bench register) there, is, told-true (decides-eq (named bench register .rights / 1 % 2) 1) right, empty)
+        rw (told-true (decides-held bench register) there) (read-deed (named bench register) sort bytes (is, right, empty))
 
     -- ---- the reply offered to a desk, with 8 bytes of room or more
     module _ (desk₂ : Desk) (room₂ : List ℕ) (enough : 8 ≤ length room₂) (b : AfterReply) (room₂′ : List ℕ) (replies : Replies desk₂ reply room₂ b room₂′) where

@@ -54,6 +54,13 @@ decides-if {c} {a} {b} p q r = go c a b p q r
 pub decides-set : (b : Bool) → Decides b (b ≡ true)
 decides-set b = record { so = λ e. e; not-so = λ e h. true≢false (sym h ∙ e) }
 
+pub told-true : {b : Bool} {P : Type 0} → Decides b P → P → b ≡ true
+told-true {b} {P} d p = go b d
+  where
+    go : (t : Bool) → Decides t P → t ≡ true
+    go true d = refl
+    go false d = absurd (d .not-so refl p)
+
 pub told-false : {b : Bool} {P : Type 0} → Decides b P → (P → ⊥) → b ≡ false
 told-false {b} {P} d n = go b d
   where

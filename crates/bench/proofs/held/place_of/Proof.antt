@@ -7,7 +7,7 @@ use borrow.Author.Needs.{needs}
 use borrow.Author.Count.{below-more}
 use Rattle.bench.proofs.held.place_of.Statement.{statement}
 use Rattle.bench.proofs.Places.{found-at, found-none}
-use Rattle.bench.specs.declared.Register.{Register}
+use Rattle.deeds.specs.declared.Register.{Register}
 use Rattle.bench.specs.Register.{registerAt}
 use Rattle.bench.proofs.held.place_of.Tie as tie
 

@@ -1,0 +1,464 @@
+// A night on the bench: a VARIA and a COMPACT built from the catalogue's rows, read and written by
+// telegram, with each number that the bench refuses by on both sides of its condition.
+//
+// What it must write was worked out by an implementation that shares no code with the bench. The
+// same calls, in the same order, stand in tests/vectors/bench_night.calls, a line each, and line n
+// of `stdout` is that implementation's answer to line n; of `bench.look`, the register's part of
+// its `bench.dump`, or `not held`. tests/model/run compares them.
+//
+// The last lines are of a bench that no call made. That implementation cannot make one: they were
+// worked out by hand from the contracts, as `strange` says.
+use bench::Bench;
+use bench::Building;
+use bench::Register;
+use bench::Seen;
+use bench::Taking;
+use libc::STDOUT_FILENO;
+use values::Value;
+
+// The catalogue's types of modules.
+const VARIA: u8 = 0x68;
+
+const COMPACT: u8 = 0x74;
+
+// The night's telegrams: how many bytes each has, how many bytes are lent for the reply, and then
+// the telegram as it stands on the wire, filled up with zeros.
+const WIRES: [[u8; 18]; 39] = [
+    // reads: the status word, with data, eight bytes, a register that is not there
+    *b"\x08\x10\x0d\x0f\xa2\x04\x66\xc7\xb6\x0a\x00\x00\x00\x00\x00\x00\x00\x00",
+    *b"\x09\x10\x0d\x0f\xa2\x04\x66\x00\x1f\xab\x0a\x00\x00\x00\x00\x00\x00\x00",
+    *b"\x08\x10\x0d\x0f\xa2\x04\x68\x26\x78\x0a\x00\x00\x00\x00\x00\x00\x00\x00",
+    *b"\x08\x10\x0d\x0f\xa2\x04\x77\xc5\xa6\x0a\x00\x00\x00\x00\x00\x00\x00\x00",
+    // writes: two bytes, read again, one byte, three bytes, without the right, not there
+    *b"\x0a\x10\x0d\x0f\xa2\x05\x32\x20\x03\x8a\xe1\x0a\x00\x00\x00\x00\x00\x00",
+    *b"\x08\x10\x0d\x0f\xa2\x04\x32\xdd\xc7\x0a\x00\x00\x00\x00\x00\x00\x00\x00",
+    *b"\x09\x10\x0d\x0f\xa2\x05\x32\x20\xce\x82\x0a\x00\x00\x00\x00\x00\x00\x00",
+    *b"\x0b\x10\x0d\x0f\xa2\x05\x32\x20\x03\x00\xd1\xc2\x0a\x00\x00\x00\x00\x00",
+    *b"\x0b\x10\x0d\x0f\xa2\x05\x66\x01\x00\x5e\x4d\x5b\x0a\x00\x00\x00\x00\x00",
+    *b"\x0a\x10\x0d\x0f\xa2\x05\x77\x01\x00\x79\x08\x0a\x00\x00\x00\x00\x00\x00",
+    // bits: toggled, set, cleared, a mask of one byte, without the right
+    *b"\x0a\x10\x0d\x0f\xa2\x09\x67\x00\x04\x06\xec\x0a\x00\x00\x00\x00\x00\x00",
+    *b"\x0a\x10\x0d\x0f\xa2\x06\x67\x82\x00\xef\x7c\x0a\x00\x00\x00\x00\x00\x00",
+    *b"\x0a\x10\x0d\x0f\xa2\x07\x67\x81\x04\x8c\x1f\x0a\x00\x00\x00\x00\x00\x00",
+    *b"\x09\x10\x0d\x0f\xa2\x09\x67\x01\x7e\xea\x0a\x00\x00\x00\x00\x00\x00\x00",
+    *b"\x0a\x10\x0d\x0f\xa2\x09\x32\x01\x00\xc0\x67\x0a\x00\x00\x00\x00\x00\x00",
+    // room for the ack, one byte less, none; room for a datagram with substitutions, one byte less
+    *b"\x0c\x08\x0d\x0f\xa2\x05\x33\x5e\x4d\x5e\x4a\x5c\x42\x0a\x00\x00\x00\x00",
+    *b"\x0a\x07\x0d\x0f\xa2\x05\x33\x34\x12\x70\x76\x0a\x00\x00\x00\x00\x00\x00",
+    *b"\x0a\x00\x0d\x0f\xa2\x05\x33\x34\x12\x70\x76\x0a\x00\x00\x00\x00\x00\x00",
+    *b"\x08\x0c\x0d\x0f\xa2\x04\x33\xcd\xe6\x0a\x00\x00\x00\x00\x00\x00\x00\x00",
+    *b"\x08\x0b\x0d\x0f\xa2\x04\x33\xcd\xe6\x0a\x00\x00\x00\x00\x00\x00\x00\x00",
+    // for another address; types 0, 1, 2, 3 and 8
+    *b"\x08\x10\x0d\x10\xa2\x04\x66\x08\xff\x0a\x00\x00\x00\x00\x00\x00\x00\x00",
+    *b"\x08\x10\x0d\x0f\xa2\x00\x66\x0b\x72\x0a\x00\x00\x00\x00\x00\x00\x00\x00",
+    *b"\x08\x10\x0d\x0f\xa2\x01\x66\x38\x43\x0a\x00\x00\x00\x00\x00\x00\x00\x00",
+    *b"\x08\x10\x0d\x0f\xa2\x02\x66\x6d\x10\x0a\x00\x00\x00\x00\x00\x00\x00\x00",
+    *b"\x09\x10\x0d\x0f\xa2\x03\x66\x5e\x9e\x21\x0a\x00\x00\x00\x00\x00\x00\x00",
+    *b"\x08\x10\x0d\x0f\xa2\x08\x66\x82\xdb\x0a\x00\x00\x00\x00\x00\x00\x00\x00",
+    // what the reader refuses: 1 to 4, 7, 8 at either end, 9
+    *b"\x01\x10\x0d\x00\x00\x00\x00\x00\x00\x00\x00\x00\x00\x00\x00\x00\x00\x00",
+    *b"\x03\x10\x0d\x0d\x0a\x00\x00\x00\x00\x00\x00\x00\x00\x00\x00\x00\x00\x00",
+    *b"\x04\x10\x0d\x5e\x41\x0a\x00\x00\x00\x00\x00\x00\x00\x00\x00\x00\x00\x00",
+    *b"\x02\x10\x0d\x0a\x00\x00\x00\x00\x00\x00\x00\x00\x00\x00\x00\x00\x00\x00",
+    *b"\x0a\x10\x0d\x0f\xa2\x05\x32\x55\x55\x47\x7f\x0a\x00\x00\x00\x00\x00\x00",
+    *b"\x08\x10\x0d\x00\xa2\x04\x32\x09\x29\x0a\x00\x00\x00\x00\x00\x00\x00\x00",
+    *b"\x08\x10\x0d\x0f\x00\x04\x32\x0e\x3b\x0a\x00\x00\x00\x00\x00\x00\x00\x00",
+    *b"\x09\x10\x0d\x0f\xa2\x5e\x4a\x32\xfe\xc8\x0a\x00\x00\x00\x00\x00\x00\x00",
+    // the COMPACT: a value below 0 read, a value written and read; its 32nd register
+    *b"\x09\x10\x0d\x5e\x4a\xa2\x04\x1b\xd4\xc9\x0a\x00\x00\x00\x00\x00\x00\x00",
+    *b"\x10\x10\x0d\x5e\x4a\xa2\x05\x33\x5e\x9e\x5e\x4d\x5e\x4a\x00\xef\x56\x0a",
+    *b"\x09\x10\x0d\x5e\x4a\xa2\x04\x33\x71\xa3\x0a\x00\x00\x00\x00\x00\x00\x00",
+    *b"\x09\x10\x0d\x5e\x4a\xa2\x04\x99\x65\x03\x0a\x00\x00\x00\x00\x00\x00\x00",
+    // a write with no data
+    *b"\x08\x10\x0d\x0f\xa2\x05\x66\xf4\x87\x0a\x00\x00\x00\x00\x00\x00\x00\x00",
+];
+
+fn main() {
+    addresses();
+    let mut rig = tester(varia());
+    rig = reads_and_writes(rig);
+    rig = bits(rig);
+    rig = rooms(rig);
+    rig = others(rig);
+    unread(rig);
+    full(compact());
+    strange();
+}
+
+// Number 34 on both sides: a bench has an address from 1 to 160.
+fn addresses() {
+    make(0);
+    make(161);
+    make(160);
+    make(1);
+}
+
+// A VARIA at address 15, from the catalogue, with a status register whose bits may be written;
+// 30, 31 and 32 on both sides.
+fn varia() -> Bench {
+    let mut rig = make(15);
+    rig = row(rig, VARIA, 0x13);
+    rig = row(rig, VARIA, 0x66);
+    rig = row(rig, VARIA, 0x32);
+    rig = row(rig, VARIA, 0x33);
+    rig = row(rig, VARIA, 0x34);
+    rig = add(rig, 0x67, 3, 5);
+    rig = add(rig, 0x68, 0, 1);
+    rig = add(rig, 0x68, 8, 1);
+    rig = add(rig, 0x68, 7, 8);
+    rig = add(rig, 0x68, 7, 7);
+    rig = add(rig, 0x32, 3, 3);
+    look(rig, 0x68);
+    look(rig, 0x69);
+    rig
+}
+
+// The tester sets registers: 38, and 43 on both sides.
+fn tester(before: Bench) -> Bench {
+    let mut rig = before;
+    rig = set(rig, 0x66, Value::Natural(1025));
+    rig = set(rig, 0x66, Value::Natural(65536));
+    rig = set(rig, 0x66, Value::Natural(65535));
+    rig = set(rig, 0x66, Value::Negative(0));
+    rig = set(rig, 0x99, Value::Natural(1));
+    look(rig, 0x66);
+    rig = set(rig, 0x67, Value::Natural(1025));
+    rig = set(rig, 0x68, Value::Natural(18446744073709551615));
+    look(rig, 0x68);
+    rig
+}
+
+// Reads with the right and no data, writes of exactly the kind's size, and not so.
+fn reads_and_writes(before: Bench) -> Bench {
+    let mut rig = four(before, 0);
+    rig = four(rig, 4);
+    rig = tele(rig, 8);
+    rig = tele(rig, 9);
+    look(rig, 0x32);
+    rig
+}
+
+// Bits of the status register toggled, set and cleared; and without the size or the right.
+fn bits(before: Bench) -> Bench {
+    let mut rig = tele(before, 10);
+    look(rig, 0x67);
+    rig = tele(rig, 11);
+    look(rig, 0x67);
+    rig = tele(rig, 12);
+    look(rig, 0x67);
+    rig = tele(rig, 13);
+    rig = tele(rig, 14);
+    look(rig, 0x32);
+    rig
+}
+
+// 37: a buffer of the reply's length, and one byte less, with the register as it was.
+fn rooms(before: Bench) -> Bench {
+    let mut rig = tele(before, 15);
+    rig = tele(rig, 16);
+    look(rig, 0x33);
+    rig = tele(rig, 17);
+    rig = tele(rig, 18);
+    rig = tele(rig, 19);
+    rig
+}
+
+// 35 and 36: for another address, and what no host sends.
+fn others(before: Bench) -> Bench {
+    let mut rig = four(before, 20);
+    rig = tele(rig, 24);
+    rig = tele(rig, 25);
+    rig
+}
+
+// What the reader refuses: 1 to 5 and 7 to 9.
+fn unread(before: Bench) {
+    let mut rig = four(before, 26);
+    rig = four(rig, 30);
+    rig = too_long(rig);
+    look(rig, 0x32);
+}
+
+// A message of 247 bytes.
+fn too_long(rig: Bench) -> Bench {
+    let mut frame = [1u8; 249];
+    frame[0] = 13;
+    frame[248] = 10;
+    let mut room = [0xaau8; 16];
+    take(rig, &frame, &mut room)
+}
+
+// A COMPACT at address 10, from the catalogue: a value below 0 read, a value written and read.
+fn compact() -> Bench {
+    let mut rig = make(10);
+    rig = row(rig, COMPACT, 0x1a);
+    rig = row(rig, COMPACT, 0x1b);
+    rig = row(rig, COMPACT, 0x66);
+    rig = row(rig, COMPACT, 0x24);
+    rig = row(rig, COMPACT, 0x30);
+    rig = row(rig, COMPACT, 0x33);
+    rig = set(rig, 0x1b, Value::Negative(4));
+    rig = set(rig, 0x1b, Value::Negative(32768));
+    rig = tele(rig, 34);
+    rig = tele(rig, 35);
+    rig = tele(rig, 36);
+    rig
+}
+
+// 33: the 32nd register and the 33rd.
+fn full(before: Bench) {
+    let mut rig = eight(before, 0x80);
+    rig = eight(rig, 0x88);
+    rig = eight(rig, 0x90);
+    rig = add(rig, 0x98, 1, 1);
+    rig = add(rig, 0x99, 1, 1);
+    rig = add(rig, 0x9a, 1, 1);
+    look(rig, 0x99);
+    look(rig, 0x9a);
+    rig = add(rig, 0x99, 1, 1);
+    tele(rig, 37);
+}
+
+// A bench that no call made: a count of 99, and 32 times a register of kind 0, which has no bytes.
+// All 32 are held, the first of them is the one that answers, and one more is too many (33). No
+// number is one of kind 0 (43). A read answers a datagram without data, and a write without data
+// has exactly the kind's size: ack, and the value is 0.
+fn strange() {
+    let register = Register {
+        number: 0x66,
+        kind: 0,
+        rights: 7,
+        value: 5,
+    };
+    let mut rig = Bench {
+        address: 15,
+        count: 99,
+        registers: [register; 32],
+    };
+    look(rig, 0x66);
+    look(rig, 0x33);
+    rig = add(rig, 0x33, 0, 3);
+    rig = add(rig, 0x66, 3, 3);
+    rig = add(rig, 0x33, 3, 3);
+    rig = set(rig, 0x66, Value::Natural(0));
+    rig = set(rig, 0x33, Value::Natural(0));
+    rig = tele(rig, 0);
+    rig = tele(rig, 8);
+    rig = tele(rig, 18);
+    value(rig, 0x66);
+    rig = tele(rig, 38);
+    value(rig, 0x66);
+}
+
+// ---- the calls, each with its answer in a line
+
+fn say(text: &[u8]) {
+    io::write_all(STDOUT_FILENO, text);
+}
+
+fn say_number(n: u64) {
+    io::print_decimal(STDOUT_FILENO, n);
+}
+
+fn say_built(answer: Building) {
+    match answer {
+        Building::Done => say(b"ok\n"),
+        Building::Refused(fault) => {
+            say(b"no ");
+            say_number(bench::number(fault) as u64);
+            say(b"\n");
+        }
+    }
+}
+
+fn make(address: u8) -> Bench {
+    let after = bench::make(address);
+    let answer = after.answer;
+    say_built(answer);
+    after.bench
+}
+
+fn add(rig: Bench, number: u8, kind: u8, rights: u8) -> Bench {
+    let after = bench::add(rig, number, kind, rights);
+    let answer = after.answer;
+    say_built(answer);
+    after.bench
+}
+
+// Eight registers of one byte, from a number on.
+fn eight(before: Bench, from: u8) -> Bench {
+    let mut rig = before;
+    if from < 248 {
+        rig = add(rig, from, 1, 1);
+        rig = add(rig, from + 1, 1, 1);
+        rig = add(rig, from + 2, 1, 1);
+        rig = add(rig, from + 3, 1, 1);
+        rig = add(rig, from + 4, 1, 1);
+        rig = add(rig, from + 5, 1, 1);
+        rig = add(rig, from + 6, 1, 1);
+        rig = add(rig, from + 7, 1, 1);
+    }
+    rig
+}
+
+// A register as the catalogue has it: read, and written where the catalogue says so.
+fn row(rig: Bench, model: u8, number: u8) -> Bench {
+    match catalogue::find(model, number) {
+        catalogue::Found::Is(entry) => {
+            if entry.writable {
+                return add(rig, number, entry.kind, 3);
+            }
+            add(rig, number, entry.kind, 1)
+        }
+        catalogue::Found::Refused(_) => rig,
+    }
+}
+
+fn set(rig: Bench, number: u8, value: Value) -> Bench {
+    let after = bench::set(rig, number, value);
+    let answer = after.answer;
+    say_built(answer);
+    after.bench
+}
+
+fn look(rig: Bench, number: u8) {
+    match bench::look(rig, number) {
+        Seen::Held(register) => say_register(register),
+        Seen::NotHeld => say(b"not held\n"),
+    }
+}
+
+fn say_register(register: Register) {
+    let mut space = [0u8; 8];
+    values::store(register.value, 8, &mut space);
+    say_number(register.number as u64);
+    say(b":");
+    say_number(register.kind as u64);
+    say(b":");
+    say_number(register.rights as u64);
+    say(b":");
+    let n = values::size(register.kind);
+    if n <= 8 {
+        say_bytes(&space[0..n]);
+    }
+    say(b"\n");
+}
+
+// The number that a register keeps, also where its kind has no bytes.
+fn value(rig: Bench, number: u8) {
+    match bench::look(rig, number) {
+        Seen::Held(register) => say_number(register.value),
+        Seen::NotHeld => say(b"not held"),
+    }
+    say(b"\n");
+}
+
+// Four telegrams of the table, from a place on.
+fn four(before: Bench, at: usize) -> Bench {
+    let mut rig = before;
+    if at < 100 {
+        rig = tele(rig, at);
+        rig = tele(rig, at + 1);
+        rig = tele(rig, at + 2);
+        rig = tele(rig, at + 3);
+    }
+    rig
+}
+
+// A telegram of the table.
+fn tele(rig: Bench, at: usize) -> Bench {
+    if at < WIRES.len() {
+        let w = WIRES[at];
+        let frame = [
+            w[2],
+            w[3],
+            w[4],
+            w[5],
+            w[6],
+            w[7],
+            w[8],
+            w[9],
+            w[10],
+            w[11],
+            w[12],
+            w[13],
+            w[14],
+            w[15],
+            w[16],
+            w[17],
+        ];
+        return send(rig, &frame, count(w[0]), count(w[1]));
+    }
+    rig
+}
+
+// The first n of these bytes, with so many bytes aa lent for the reply, at most 16.
+fn send(rig: Bench, frame: &[u8], n: usize, lent: usize) -> Bench {
+    let mut room = [0xaau8; 16];
+    if n <= frame.len() {
+        if lent <= 16 {
+            return take(rig, &frame[0..n], &mut room[0..lent]);
+        }
+    }
+    rig
+}
+
+fn count(byte: u8) -> usize {
+    byte as usize
+}
+
+fn take(rig: Bench, frame: &[u8], room: &mut [u8]) -> Bench {
+    let after = bench::take(rig, frame, room);
+    let answer = after.answer;
+    say_taken(answer);
+    say(b" buf=");
+    if room.len() == 0 {
+        say(b"-");
+    }
+    say_bytes(room);
+    say(b"\n");
+    after.bench
+}
+
+fn say_taken(answer: Taking) {
+    match answer {
+        Taking::Answered(n) => {
+            say(b"ok n=");
+            say_number(n as u64);
+        }
+        Taking::Silent(fault) => {
+            say(b"no ");
+            say_number(bench::number(fault) as u64);
+        }
+    }
+}
+
+// Up to 16 bytes.
+fn say_bytes(bytes: &[u8]) {
+    say_at(bytes, 0);
+    say_at(bytes, 1);
+    say_at(bytes, 2);
+    say_at(bytes, 3);
+    say_at(bytes, 4);
+    say_at(bytes, 5);
+    say_at(bytes, 6);
+    say_at(bytes, 7);
+    say_at(bytes, 8);
+    say_at(bytes, 9);
+    say_at(bytes, 10);
+    say_at(bytes, 11);
+    say_at(bytes, 12);
+    say_at(bytes, 13);
+    say_at(bytes, 14);
+    say_at(bytes, 15);
+}
+
+fn say_at(bytes: &[u8], at: usize) {
+    if at < bytes.len() {
+        say_byte(bytes[at]);
+    }
+}
+
+fn say_byte(byte: u8) {
+    io::print_hex(STDOUT_FILENO, byte as u64, 2);
+}

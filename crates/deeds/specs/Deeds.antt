@@ -1,0 +1,58 @@
+-- What a request does to a register: the reply's type, how many bytes of the value it carries, and the value afterwards.
+-- A value is kept as the number that the register's bytes are, lowest first.
+-- Assumes nothing.
+use mathlib.Core.Path.{_≡_}
+use mathlib.Core.Bool.{Bool, cond, _||_, _&&_}
+use mathlib.Core.List.{List}
+use Prim.Native.Nat.{ℕ, _/_, _%_}
+use lib.Dec.{eqb}
+use lib.ListN.{length}
+use Rattle.values.specs.Values.{sizeOf, natural, setBits, clearBits, toggleBits}
+use Rattle.deeds.specs.declared.Register.{Register}
+use Rattle.deeds.specs.declared.Deed.{Deed}
+
+-- "Rights: 1 read, 2 write, 4 bit writes, summed."
+abbrev pub HasRight : Register → ℕ → Type 0
+HasRight register right = register .rights / right % 2 ≡ 1
+
+abbrev pub hasRight : Register → ℕ → Bool
+hasRight register right = eqb (register .rights / right % 2) 1
+
+-- "Ack and nack carry the register and no data."
+abbrev pub nack : ℕ → Deed
+nack value = record { sort = 0; size = 0; value = value }
+
+abbrev pub ack : ℕ → Deed
+ack value = record { sort = 3; size = 0; value = value }
+
+abbrev pub datagram : Register → Deed
+datagram register = record { sort = 8; size = sizeOf (register .kind); value = register .value }
+
+-- "read with the right and no data: a datagram with the value"; n is how many data bytes there are
+unfoldable pub readDeed : Register → ℕ → Deed
+readDeed register n = cond (hasRight register 1 && eqb n 0) (datagram register) (nack (register .value))
+
+-- "write with the right and exactly the kind's size of data: ack, and the value is those bytes";
+-- "set, clear or toggle with right 4 and that size: ack"
+unfoldable pub writeDeed : Register → ℕ → ℕ → ℕ → Deed
+writeDeed register right n value = cond (hasRight register right && eqb n (sizeOf (register .kind))) (ack value) (nack (register .value))
+
+-- "anything else [..]: nack, nothing changed"
+unfoldable pub heldDeed : Register → ℕ → List ℕ → Deed
+heldDeed register sort bytes =
+    cond (eqb sort 4) (readDeed register (length bytes))
+    (cond (eqb sort 5) (writeDeed register 2 (length bytes) (natural bytes))
+    (cond (eqb sort 6) (writeDeed register 4 (length bytes) (setBits (register .value) (natural bytes)))
+    (cond (eqb sort 7) (writeDeed register 4 (length bytes) (clearBits (register .value) (natural bytes)))
+    (cond (eqb sort 9) (writeDeed register 4 (length bytes) (toggleBits (register .value) (natural bytes))) (nack (register .value))))))
+
+-- what a bit write makes of a value: 6 sets, 7 clears, 9 toggles
+abbrev pub Changes : ℕ → ℕ → ℕ → ℕ → Type 0
+Changes sort value mask r = (sort ≡ 6 → r ≡ setBits value mask) × (sort ≡ 7 → r ≡ clearBits value mask) × (sort ≡ 9 → r ≡ toggleBits value mask)
+
+abbrev pub isBitWrite : ℕ → Bool
+isBitWrite sort = eqb sort 6 || (eqb sort 7 || eqb sort 9)
+
+-- the contract of `held_deed`
+abbrev pub Does : Register → ℕ → List ℕ → Deed → Type 0
+Does register sort bytes r = r ≡ heldDeed register sort bytes
