@@ -179,6 +179,7 @@ fn with_bench(made: Made, shown: Shown) -> Said {
     }
 }
 
+// The calls that keep nothing.
 fn answer_kept(w: Words, line: &[u8], out: &mut [u8]) -> usize {
     if words::is(w, line, b"rem") {
         return telegram_calls::rem(w, line, out);
@@ -189,14 +190,5 @@ fn answer_kept(w: Words, line: &[u8], out: &mut [u8]) -> usize {
     if words::is(w, line, b"write") {
         return telegram_calls::write(w, line, out);
     }
-    if words::is(w, line, b"val.get") {
-        return values_calls::get(w, line, out);
-    }
-    if words::is(w, line, b"val.put") {
-        return values_calls::put(w, line, out);
-    }
-    if words::is(w, line, b"cat") {
-        return values_calls::cat(w, line, out);
-    }
-    answers::bad_line(out)
+    values_calls::answer(w, line, out)
 }

@@ -6,8 +6,22 @@ use words::Words;
 use words::byte;
 use words::count;
 
+// The call that the word last taken names.
+pub fn answer(w: Words, line: &[u8], out: &mut [u8]) -> usize {
+    if words::is(w, line, b"val.get") {
+        return get(w, line, out);
+    }
+    if words::is(w, line, b"val.put") {
+        return put(w, line, out);
+    }
+    if words::is(w, line, b"cat") {
+        return cat(w, line, out);
+    }
+    answers::bad_line(out)
+}
+
 // val.get KIND BYTES INDEX
-pub fn get(w: Words, line: &[u8], out: &mut [u8]) -> usize {
+fn get(w: Words, line: &[u8], out: &mut [u8]) -> usize {
     let mut space = [0u8; 4096];
     let a = words::number(w, line, 255);
     let p = words::bytes(a, line, &mut space);
@@ -42,7 +56,7 @@ fn say_value(value: Value, out: &mut [u8], at: usize) -> usize {
 }
 
 // val.put KIND VALUE BUF
-pub fn put(w: Words, line: &[u8], out: &mut [u8]) -> usize {
+fn put(w: Words, line: &[u8], out: &mut [u8]) -> usize {
     let mut room = [0u8; 4096];
     let a = words::number(w, line, 255);
     let v = words::signed(a, line);
@@ -79,7 +93,7 @@ pub fn value_of(w: Words) -> Value {
 }
 
 // cat TYPE REG
-pub fn cat(w: Words, line: &[u8], out: &mut [u8]) -> usize {
+fn cat(w: Words, line: &[u8], out: &mut [u8]) -> usize {
     let a = words::number(w, line, 255);
     let b = words::number(a, line, 255);
     if words::done(b, line) {
