@@ -1,9 +1,7 @@
 // Rehearses a night without a rig: reads call lines from standard input to its end and writes one
 // answer line for each. It calls the library's public functions and decides nothing itself.
 use bench::Bench;
-use bench_calls::Shown;
 use desk::Desk;
-use desk_calls::Told;
 use libc::STDIN_FILENO;
 use libc::STDOUT_FILENO;
 use words::Words;
@@ -142,15 +140,10 @@ fn answer_to(line: &[u8], gathered: Gathered, out: &mut [u8]) -> Said {
 fn answer(made: Made, line: &[u8], out: &mut [u8]) -> Said {
     let w = words::word(words::start(), line);
     if words::starts(w, line, b"desk.") {
-        let desk = made.desk;
-        return with_desk(made, desk_calls::answer(desk, w, line, out));
+        return answer_desk(made, w, line, out);
     }
     if words::starts(w, line, b"bench.") {
-        let bench = made.bench;
-        return with_bench(
-            made,
-            bench_calls::answer(bench, made.has_bench, w, line, out),
-        );
+        return answer_bench(made, w, line, out);
     }
     Said {
         made: made,
@@ -158,20 +151,24 @@ fn answer(made: Made, line: &[u8], out: &mut [u8]) -> Said {
     }
 }
 
-fn with_desk(made: Made, told: Told) -> Said {
+fn answer_desk(made: Made, w: Words, line: &[u8], out: &mut [u8]) -> Said {
+    let before = made.desk;
+    let told = desk_calls::answer(before, w, line, out);
+    let after = told.desk;
     let mut next = made;
-    let desk = told.desk;
-    next.desk = desk;
+    next.desk = after;
     Said {
         made: next,
         at: told.at,
     }
 }
 
-fn with_bench(made: Made, shown: Shown) -> Said {
+fn answer_bench(made: Made, w: Words, line: &[u8], out: &mut [u8]) -> Said {
+    let before = made.bench;
+    let shown = bench_calls::answer(before, made.has_bench, w, line, out);
+    let after = shown.bench;
     let mut next = made;
-    let bench = shown.bench;
-    next.bench = bench;
+    next.bench = after;
     next.has_bench = shown.made;
     Said {
         made: next,
