@@ -1,21 +1,10 @@
 // Rehearses a night without a rig: reads call lines from standard input to its end and writes one
 // answer line for each. It calls the library's public functions and decides nothing itself.
-mod modules;
-mod numbers;
-mod say;
-mod telegrams;
-mod tickets;
-mod words;
-
-use crate::modules::Shown;
-use crate::tickets::Told;
-use crate::words::Words;
 use bench::Bench;
 use desk::Desk;
 use libc::STDIN_FILENO;
 use libc::STDOUT_FILENO;
-ghost use Prim.Native.Nat.{_≤_};
-ghost use lib.ListN.{length};
+use words::Words;
 
 // A line that is longer than this is a bad line.
 const LONGEST: usize = 8192;
@@ -88,7 +77,7 @@ fn feed(chunk: &[u8], line: &mut [u8], out: &mut [u8], before: Gathered) -> Gath
     let mut gathered = before;
     let mut from = 0;
     while from < chunk.len() {
-        let to = newline(chunk, from);
+        let to = words::seek(chunk, from, b'\n');
         gathered = piece(&chunk[from..to], to < chunk.len(), line, out, gathered);
         from = to + 1;
     }
@@ -102,21 +91,6 @@ fn piece(part: &[u8], ends: bool, line: &mut [u8], out: &mut [u8], before: Gathe
         return next_line(end_line(line, gathered, out));
     }
     gathered
-}
-
-// Where the next newline is, or the chunk's end.
-fn newline(chunk: &[u8], from: usize) -> usize
-    requires { ⌜ from ≤ length (now chunk) ⌝ }
-    ensures { λ r. ⌜ (from ≤ r) × (r ≤ length (now (chunk .entry))) ⌝ }
-{
-    let mut to = from;
-    while to < chunk.len() {
-        if chunk[to] == b'\n' {
-            return to;
-        }
-        to += 1;
-    }
-    to
 }
 
 // Adds a part to the line that is gathered.
@@ -137,13 +111,13 @@ fn gather(part: &[u8], line: &mut [u8], before: Gathered) -> Gathered {
 // Answers a line that has ended. One write for a whole answer.
 fn end_line(line: &[u8], gathered: Gathered, out: &mut [u8]) -> Made {
     let said = answer_to(line, gathered, out);
-    let at = say::text(out, said.at, b"\n");
+    let at = answers::text(out, said.at, b"\n");
     show(out, at);
     said.made
 }
 
 fn show(out: &[u8], at: usize) {
-    let n = telegrams::count(at as u64, out);
+    let n = words::count(at as u64, out);
     io::write_all(STDOUT_FILENO, &out[..n]);
 }
 
@@ -153,7 +127,7 @@ fn answer_to(line: &[u8], gathered: Gathered, out: &mut [u8]) -> Said {
     if gathered.long {
         return Said {
             made: made,
-            at: say::bad_line(out),
+            at: answers::bad_line(out),
         };
     }
     if used <= line.len() {
@@ -166,12 +140,10 @@ fn answer_to(line: &[u8], gathered: Gathered, out: &mut [u8]) -> Said {
 fn answer(made: Made, line: &[u8], out: &mut [u8]) -> Said {
     let w = words::word(words::start(), line);
     if words::starts(w, line, b"desk.") {
-        let desk = made.desk;
-        return with_desk(made, answer_desk(desk, w, line, out));
+        return answer_desk(made, w, line, out);
     }
     if words::starts(w, line, b"bench.") {
-        let bench = made.bench;
-        return with_bench(made, answer_bench(bench, made.has_bench, w, line, out));
+        return answer_bench(made, w, line, out);
     }
     Said {
         made: made,
@@ -179,20 +151,24 @@ fn answer(made: Made, line: &[u8], out: &mut [u8]) -> Said {
     }
 }
 
-fn with_desk(made: Made, told: Told) -> Said {
+fn answer_desk(made: Made, w: Words, line: &[u8], out: &mut [u8]) -> Said {
+    let before = made.desk;
+    let told = desk_calls::answer(before, w, line, out);
+    let after = told.desk;
     let mut next = made;
-    let desk = told.desk;
-    next.desk = desk;
+    next.desk = after;
     Said {
         made: next,
         at: told.at,
     }
 }
 
-fn with_bench(made: Made, shown: Shown) -> Said {
+fn answer_bench(made: Made, w: Words, line: &[u8], out: &mut [u8]) -> Said {
+    let before = made.bench;
+    let shown = bench_calls::answer(before, made.has_bench, w, line, out);
+    let after = shown.bench;
     let mut next = made;
-    let bench = shown.bench;
-    next.bench = bench;
+    next.bench = after;
     next.has_bench = shown.made;
     Said {
         made: next,
@@ -200,65 +176,16 @@ fn with_bench(made: Made, shown: Shown) -> Said {
     }
 }
 
-fn answer_desk(desk: Desk, w: Words, line: &[u8], out: &mut [u8]) -> Told {
-    if words::is(w, line, b"desk.open") {
-        return tickets::open(desk, w, line, out);
-    }
-    if words::is(w, line, b"desk.reply") {
-        return tickets::reply(desk, w, line, out);
-    }
-    if words::is(w, line, b"desk.cancel") {
-        return tickets::cancel(desk, w, line, out);
-    }
-    if words::is(w, line, b"desk.expire") {
-        return tickets::expire(desk, w, line, out);
-    }
-    if words::is(w, line, b"desk.new") {
-        return tickets::renew(desk, w, line, out);
-    }
-    if words::is(w, line, b"desk.dump") {
-        return tickets::dump(desk, w, line, out);
-    }
-    tickets::bad(desk, out)
-}
-
-fn answer_bench(bench: Bench, made: bool, w: Words, line: &[u8], out: &mut [u8]) -> Shown {
-    if words::is(w, line, b"bench.tele") {
-        return modules::tele(bench, made, w, line, out);
-    }
-    if words::is(w, line, b"bench.add") {
-        return modules::add(bench, made, w, line, out);
-    }
-    if words::is(w, line, b"bench.set") {
-        return modules::set(bench, made, w, line, out);
-    }
-    if words::is(w, line, b"bench.dump") {
-        return modules::dump(bench, made, w, line, out);
-    }
-    if words::is(w, line, b"bench.new") {
-        return modules::renew(bench, made, w, line, out);
-    }
-    modules::bad(bench, made, out)
-}
-
+// The calls that keep nothing.
 fn answer_kept(w: Words, line: &[u8], out: &mut [u8]) -> usize {
     if words::is(w, line, b"rem") {
-        return telegrams::rem(w, line, out);
+        return telegram_calls::rem(w, line, out);
     }
     if words::is(w, line, b"read") {
-        return telegrams::read(w, line, out);
+        return telegram_calls::read(w, line, out);
     }
     if words::is(w, line, b"write") {
-        return telegrams::write(w, line, out);
+        return telegram_calls::write(w, line, out);
     }
-    if words::is(w, line, b"val.get") {
-        return numbers::get(w, line, out);
-    }
-    if words::is(w, line, b"val.put") {
-        return numbers::put(w, line, out);
-    }
-    if words::is(w, line, b"cat") {
-        return numbers::cat(w, line, out);
-    }
-    say::bad_line(out)
+    values_calls::answer(w, line, out)
 }

@@ -16,8 +16,8 @@ abbrev μ-loop : tie.MeasureT-loop
 loop-holds : tie.Need-loop-holds Inv-loop μ-loop
 loop-holds c = search needs
 
-newline-requires : tie.Need-newline-requires Inv-loop μ-loop
-newline-requires c κs = search needs
+seek-requires : tie.Need-seek-requires Inv-loop μ-loop
+seek-requires c κs = search needs
 
 sub-piece : tie.Need-sub-piece Inv-loop μ-loop
 sub-piece c = search needs
@@ -56,7 +56,7 @@ feed-spec =
     Inv-loop
     μ-loop
     loop-holds
-    newline-requires
+    seek-requires
     sub-piece
     part-piece-start
     part-piece-end

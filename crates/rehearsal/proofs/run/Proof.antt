@@ -3,7 +3,6 @@
 use mathlib.Core.Path.{_≡_}
 use borrow.Author.Needs.{needs}
 use lib.ListN.{length}
-use Rattle.catalogue.specs.Catalogue.{line}
 use Rattle.rehearsal.proofs.run.Statement.{statement}
 use Rattle.rehearsal.proofs.run.Tie as tie
 

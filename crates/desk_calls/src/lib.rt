@@ -1,0 +1,284 @@
+// The calls on the desk. Each takes the desk and gives it back as it is afterwards. A part of the
+// test tool `rehearsal`.
+use desk::Booking;
+use desk::Closing;
+use desk::Desk;
+use desk::Opening;
+use desk::Seen;
+use desk::Ticket;
+use words::Words;
+use words::byte;
+use words::count;
+use words::word32;
+
+// The desk after a call, and how long its answer is.
+pub struct Told {
+    pub desk: Desk,
+    pub at: usize,
+}
+
+// The most that a number of 32 bits can be.
+const MOST: u64 = 4294967295;
+
+// The call that the word last taken names.
+pub fn answer(d: Desk, w: Words, line: &[u8], out: &mut [u8]) -> Told {
+    if words::is(w, line, b"desk.open") {
+        return open(d, w, line, out);
+    }
+    if words::is(w, line, b"desk.reply") {
+        return reply(d, w, line, out);
+    }
+    if words::is(w, line, b"desk.cancel") {
+        return cancel(d, w, line, out);
+    }
+    if words::is(w, line, b"desk.expire") {
+        return expire(d, w, line, out);
+    }
+    if words::is(w, line, b"desk.new") {
+        return renew(d, w, line, out);
+    }
+    if words::is(w, line, b"desk.dump") {
+        return dump(d, w, line, out);
+    }
+    bad(d, out)
+}
+
+// desk.new
+fn renew(d: Desk, w: Words, line: &[u8], out: &mut [u8]) -> Told {
+    if words::done(w, line) {
+        return Told {
+            desk: desk::fresh(),
+            at: answers::ok(out),
+        };
+    }
+    bad(d, out)
+}
+
+// desk.open JOB MODULE TYPE REG DATA WAIT FOLDER CLOCK BUF
+fn open(d: Desk, w: Words, line: &[u8], out: &mut [u8]) -> Told {
+    let mut data = [0u8; 4096];
+    let mut room = [0u8; 4096];
+    let ask = take_ask(w, line);
+    let p = words::bytes(ask.words, line, &mut data);
+    let times = take_times(p, line);
+    let q = words::bytes(times.words, line, &mut room);
+    if words::done(q, line) {
+        let n = count(p.value, &data);
+        let m = count(q.value, &room);
+        return open_now(d, ask, &data[..n], times, &mut room[..m], out);
+    }
+    bad(d, out)
+}
+
+// What a request begins with, and the words behind it.
+struct Ask {
+    words: Words,
+    job: u32,
+    unit: u8,
+    sort: u8,
+    register: u8,
+}
+
+fn take_ask(w: Words, line: &[u8]) -> Ask {
+    let a = words::number(w, line, MOST);
+    let b = words::number(a, line, 255);
+    let c = words::number(b, line, 255);
+    let d = words::number(c, line, 255);
+    Ask {
+        words: d,
+        job: word32(a.value),
+        unit: byte(b.value),
+        sort: byte(c.value),
+        register: byte(d.value),
+    }
+}
+
+// The waiting time and the clock; the folder between them is passed over.
+struct Times {
+    words: Words,
+    wait: u32,
+    clock: u32,
+}
+
+fn take_times(w: Words, line: &[u8]) -> Times {
+    let a = words::number(w, line, MOST);
+    let b = words::number(a, line, MOST);
+    let c = words::number(b, line, MOST);
+    Times {
+        words: c,
+        wait: word32(a.value),
+        clock: word32(c.value),
+    }
+}
+
+fn open_now(d: Desk, ask: Ask, data: &[u8], times: Times, room: &mut [u8], out: &mut [u8]) -> Told {
+    let after = desk::open(
+        d,
+        ask.job,
+        ask.unit,
+        ask.sort,
+        ask.register,
+        data,
+        times.wait,
+        times.clock,
+        room,
+    );
+    let answer = after.answer;
+    let at = opened(answer, out);
+    let next = after.desk;
+    Told {
+        desk: next,
+        at: answers::buffer(out, at, room),
+    }
+}
+
+fn opened(answer: Opening, out: &mut [u8]) -> usize {
+    match answer {
+        Opening::Refused(fault) => answers::refused(out, desk::number(fault)),
+        Opening::Opened(address, n) => {
+            let a = answers::ok(out);
+            let b = answers::field(out, a, b" address=", address as u64);
+            answers::field(out, b, b" n=", n as u64)
+        }
+    }
+}
+
+// desk.reply FRAME BUF
+fn reply(d: Desk, w: Words, line: &[u8], out: &mut [u8]) -> Told {
+    let mut frame = [0u8; 4096];
+    let mut room = [0u8; 4096];
+    let p = words::bytes(w, line, &mut frame);
+    let q = words::bytes(p, line, &mut room);
+    if words::done(q, line) {
+        let n = count(p.value, &frame);
+        let m = count(q.value, &room);
+        return reply_now(d, &frame[..n], &mut room[..m], out);
+    }
+    bad(d, out)
+}
+
+fn reply_now(d: Desk, frame: &[u8], room: &mut [u8], out: &mut [u8]) -> Told {
+    let after = desk::reply(d, frame, room);
+    let answer = after.answer;
+    let at = booked(answer, out);
+    let next = after.desk;
+    Told {
+        desk: next,
+        at: answers::buffer(out, at, room),
+    }
+}
+
+fn booked(answer: Booking, out: &mut [u8]) -> usize {
+    match answer {
+        Booking::Refused(fault) => answers::refused(out, desk::number(fault)),
+        Booking::Booked(job, address, sort, size) => {
+            let at = whose(job, address, out);
+            let next = answers::field(out, at, b" type=", sort as u64);
+            answers::field(out, next, b" n=", size as u64)
+        }
+    }
+}
+
+// `ok` with the job and the address of a ticket.
+fn whose(job: u32, address: u8, out: &mut [u8]) -> usize {
+    let at = answers::ok(out);
+    let next = answers::field(out, at, b" job=", job as u64);
+    answers::field(out, next, b" address=", address as u64)
+}
+
+// desk.cancel JOB ADDRESS CLOCK
+fn cancel(d: Desk, w: Words, line: &[u8], out: &mut [u8]) -> Told {
+    let a = words::number(w, line, MOST);
+    let b = words::number(a, line, 255);
+    let c = words::number(b, line, MOST);
+    if words::done(c, line) {
+        return closed(desk::cancel(d, word32(a.value), byte(b.value)), out);
+    }
+    bad(d, out)
+}
+
+// desk.expire CLOCK
+fn expire(d: Desk, w: Words, line: &[u8], out: &mut [u8]) -> Told {
+    let a = words::number(w, line, MOST);
+    if words::done(a, line) {
+        return closed(desk::expire(d, word32(a.value)), out);
+    }
+    bad(d, out)
+}
+
+fn closed(after: desk::AfterClose, out: &mut [u8]) -> Told {
+    let answer = after.answer;
+    let next = after.desk;
+    Told {
+        desk: next,
+        at: closing(answer, out),
+    }
+}
+
+fn closing(answer: Closing, out: &mut [u8]) -> usize {
+    match answer {
+        Closing::Refused(fault) => answers::refused(out, desk::number(fault)),
+        Closing::Closed(job, address) => whose(job, address, out),
+    }
+}
+
+// desk.dump
+fn dump(d: Desk, w: Words, line: &[u8], out: &mut [u8]) -> Told {
+    if words::done(w, line) {
+        let at = answers::ok(out);
+        let next = answers::field(out, at, b" turn=", 161 + d.turn as u64);
+        let from = answers::text(out, next, b" tickets=");
+        return Told {
+            desk: d,
+            at: tickets(d, out, from),
+        };
+    }
+    bad(d, out)
+}
+
+// The open tickets by rising address, `-` for none.
+fn tickets(d: Desk, out: &mut [u8], from: usize) -> usize {
+    let mut at = from;
+    let mut address: u8 = 161;
+    while address < 255 {
+        at = ticket(d, address, out, from, at);
+        address += 1;
+    }
+    let last = ticket(d, 255, out, from, at);
+    if last == from {
+        return answers::text(out, from, b"-");
+    }
+    last
+}
+
+// The ticket on an address, behind a comma unless it is the first, or nothing.
+fn ticket(d: Desk, address: u8, out: &mut [u8], from: usize, at: usize) -> usize {
+    match desk::look(d, address) {
+        Seen::Nothing => at,
+        Seen::Open(t) => {
+            let next = answers::comma(out, from, at);
+            let behind = answers::number(out, next, address as u64);
+            ticket_fields(t, out, behind)
+        }
+    }
+}
+
+fn ticket_fields(t: Ticket, out: &mut [u8], at: usize) -> usize {
+    let a = request_fields(t, out, at);
+    let b = answers::field(out, a, b":", t.wait as u64);
+    answers::field(out, b, b":", t.opened as u64)
+}
+
+fn request_fields(t: Ticket, out: &mut [u8], at: usize) -> usize {
+    let a = answers::field(out, at, b":", t.job as u64);
+    let b = answers::field(out, a, b":", t.unit as u64);
+    let c = answers::field(out, b, b":", t.sort as u64);
+    answers::field(out, c, b":", t.register as u64)
+}
+
+fn bad(d: Desk, out: &mut [u8]) -> Told {
+    Told {
+        desk: d,
+        at: answers::bad_line(out),
+    }
+}

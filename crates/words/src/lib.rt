@@ -1,0 +1,277 @@
+// The words of a call line: parted by one blank, numbers in decimal, bytes in lower-case hex with
+// `-` for none. A part of the test tool `rehearsal`.
+ghost use Rattle.io.specs.Counts.{Counts};
+ghost use mathlib.Core.Path.{_≡_};
+ghost use mathlib.Core.Bool.{true};
+ghost use Prim.Native.Nat.{_+_, _*_, _≤_, max};
+ghost use lib.ListN.{length};
+
+// How far a line was read. `at` is where the next word starts, one past the line's end once its
+// last word was taken; `good` turns false for good when a word is missing or does not parse. The
+// rest is what the last word was: its place, or its number and sign.
+pub struct Words {
+    pub at: usize,
+    pub good: bool,
+    pub from: usize,
+    pub to: usize,
+    pub value: u64,
+    pub minus: bool,
+}
+
+pub fn start() -> Words {
+    Words {
+        at: 0,
+        good: true,
+        from: 0,
+        to: 0,
+        value: 0,
+        minus: false,
+    }
+}
+
+// Whether every word parsed and the line has no more.
+pub fn done(w: Words, line: &[u8]) -> bool {
+    let at = w.at;
+    if w.good { line.len() < at } else { false }
+}
+
+// Takes the next word, whatever it is.
+pub fn word(w: Words, line: &[u8]) -> Words {
+    let from = w.at;
+    if line.len() < from {
+        return bad(w);
+    }
+    let to = seek(line, from, b' ');
+    Words {
+        at: std::num::wrapping_add_usize(to, 1),
+        good: w.good,
+        from: from,
+        to: to,
+        value: 0,
+        minus: false,
+    }
+}
+
+// Takes the next word as a number of at most `most`.
+pub fn number(w: Words, line: &[u8], most: u64) -> Words {
+    let next = word(w, line);
+    digits(next, line, next.from, most)
+}
+
+// Takes the next word as a number that may be below 0: `value` is then what it is below 0 by.
+pub fn signed(w: Words, line: &[u8]) -> Words {
+    let next = word(w, line);
+    let from = next.from;
+    let minus = starts_with_minus(next, line);
+    if minus {
+        let after = std::num::wrapping_add_usize(from, 1);
+        let mut n = digits(next, line, after, 9223372036854775808);
+        n.minus = true;
+        n
+    } else {
+        digits(next, line, from, 18446744073709551615)
+    }
+}
+
+// Takes the next word as bytes, into the room's first places. `value` is how many there are.
+pub fn bytes(w: Words, line: &[u8], room: &mut [u8]) -> Words {
+    let next = word(w, line);
+    let from = next.from;
+    let to = next.to;
+    if is_dash(line, from, to) {
+        return next;
+    }
+    let count = unhex(line, from, to, room);
+    if count < 8192 {
+        with_value(next, count)
+    } else {
+        bad(next)
+    }
+}
+
+// Whether the word last taken is this one.
+pub fn is(w: Words, line: &[u8], name: &[u8]) -> bool {
+    let from = w.from;
+    let to = w.to;
+    if to <= line.len() {
+        if from <= to {
+            return check::same(&line[from..to], name);
+        }
+    }
+    false
+}
+
+// Whether the word last taken begins with this.
+pub fn starts(w: Words, line: &[u8], with: &[u8]) -> bool {
+    let from = w.from;
+    let to = w.to;
+    if to <= line.len() {
+        if from <= to {
+            if with.len() <= to - from {
+                let end = from + with.len();
+                return check::same(&line[from..end], with);
+            }
+        }
+    }
+    false
+}
+
+// A parsed number of at most 255 as the byte that it is.
+pub fn byte(value: u64) -> u8 {
+    (value % 256) as u8
+}
+
+// A parsed number of at most 32 bits as the number that it is.
+pub fn word32(value: u64) -> u32 {
+    (value % 4294967296) as u32
+}
+
+// A parsed count of the space's bytes, which is never over the space. It takes the space and not
+// its length so that a part of that length needs no proof of its own.
+pub fn count(value: u64, space: &[u8]) -> usize
+    ensures { λ r. ⌜ Counts r (now (space .entry)) ⌝ }
+{
+    let n = value as usize;
+    if n < space.len() { n } else { space.len() }
+}
+
+// Where the next such byte is from a place on, or the end.
+pub fn seek(bytes: &[u8], from: usize, byte: u8) -> usize
+    ensures { λ r. ⌜ (from ≤ r) × (r ≤ max from (length (now (bytes .entry)))) ⌝ }
+{
+    let mut to = from;
+    while to < bytes.len() {
+        if bytes[to] == byte {
+            return to;
+        }
+        to += 1;
+    }
+    to
+}
+
+fn bad(w: Words) -> Words {
+    let mut next = w;
+    next.good = false;
+    next
+}
+
+fn with_value(w: Words, value: u64) -> Words {
+    let mut next = w;
+    next.value = value;
+    next
+}
+
+fn starts_with_minus(w: Words, line: &[u8]) -> bool {
+    let from = w.from;
+    if from < line.len() {
+        line[from] == b'-'
+    } else {
+        false
+    }
+}
+
+fn is_dash(line: &[u8], from: usize, to: usize) -> bool {
+    if from < line.len() {
+        if to == from + 1 {
+            return line[from] == b'-';
+        }
+    }
+    false
+}
+
+// The decimal number from a place to the word's end, as its value.
+fn digits(w: Words, line: &[u8], from: usize, most: u64) -> Words {
+    let to = w.to;
+    if to <= from {
+        return bad(w);
+    }
+    let mut value: u64 = 0;
+    let mut i = from;
+    while i < to {
+        if line.len() <= i {
+            return bad(w);
+        }
+        let d = digit(line[i]);
+        if fits(value, d, most) {
+            value = value * 10 + d;
+        } else {
+            return bad(w);
+        }
+        i += 1;
+    }
+    with_value(w, value)
+}
+
+// The digit that a byte is, or 10.
+fn digit(byte: u8) -> u64 {
+    if byte < b'0' {
+        return 10;
+    }
+    if b'9' < byte {
+        return 10;
+    }
+    (byte - b'0') as u64
+}
+
+// Whether the number goes on with a digit and stays at most `most`.
+fn fits(value: u64, d: u64, most: u64) -> bool
+    ensures { λ r. ⌜ (r ≡ true → value * 10 + d ≤ most) ⌝ }
+{
+    if 9 < d {
+        return false;
+    }
+    if most < d {
+        return false;
+    }
+    value <= (most - d) / 10
+}
+
+// The bytes that pairs of hex digits stand for, into the room's first places; how many, or 8192
+// where it is no such text or there is no room.
+fn unhex(line: &[u8], from: usize, to: usize, room: &mut [u8]) -> u64 {
+    if line.len() < to {
+        return 8192;
+    }
+    let mut i = from;
+    let mut n: u64 = 0;
+    while i < to {
+        if to - i < 2 {
+            return 8192;
+        }
+        let high = nibble(line[i]);
+        let low = nibble(line[i + 1]);
+        let at = n as usize;
+        if 15 < high {
+            return 8192;
+        }
+        if 15 < low {
+            return 8192;
+        }
+        if room.len() <= at {
+            return 8192;
+        }
+        room[at] = high * 16 + low;
+        n += 1;
+        i += 2;
+    }
+    if n == 0 { 8192 } else { n }
+}
+
+// The hex digit that a byte is, or 16.
+fn nibble(byte: u8) -> u8
+    ensures { λ r. ⌜ r ≤ 16 ⌝ }
+{
+    if byte < b'0' {
+        return 16;
+    }
+    if byte <= b'9' {
+        return byte - b'0';
+    }
+    if byte < b'a' {
+        return 16;
+    }
+    if byte <= b'f' {
+        return byte - b'a' + 10;
+    }
+    16
+}
