@@ -153,8 +153,20 @@ expire 999
 ",
     );
     longest();
-    full_desk();
-    full_round();
+    // All 95 addresses, and one more; then the turn passes over what is open and comes round.
+    run(
+        filled(fresh()),
+        b"open 96 15 4 48 - 1 0 12
+cancel 40 200
+cancel 3 163
+open 97 15 4 48 - 1 0 12
+open 98 15 4 48 - 1 0 7
+open 98 15 4 48 - 1 0 12
+dump
+",
+    );
+    // Each address is freed at once, and comes back only after all the others.
+    dump(rounded(fresh()));
 }
 
 // Rows 13 and 5 at the longest data: 240 bytes and one more, and a reply whose message has 247.
@@ -169,32 +181,12 @@ fn longest() {
     dump(d);
 }
 
-// All 95 addresses, and one more; then the turn passes over what is open and comes round.
-fn full_desk() {
-    run(
-        filled(fresh()),
-        b"open 96 15 4 48 - 1 0 12
-cancel 40 200
-cancel 3 163
-open 97 15 4 48 - 1 0 12
-open 98 15 4 48 - 1 0 7
-open 98 15 4 48 - 1 0 12
-dump
-",
-    );
-}
-
 fn filled(desk: desk::Desk) -> desk::Desk {
     let mut d = desk;
     for job in 1u32..96 {
         d = read(d, job);
     }
     d
-}
-
-// Each address is freed at once, and comes back only after all the others.
-fn full_round() {
-    dump(rounded(fresh()));
 }
 
 fn rounded(desk: desk::Desk) -> desk::Desk {
@@ -236,15 +228,18 @@ fn run(desk: desk::Desk, text: &[u8]) -> desk::Desk {
 // new, or open JOB MODULE TYPE REGISTER DATA WAIT CLOCK ROOM, reply FRAME ROOM, cancel JOB ADDRESS,
 // expire CLOCK, dump
 fn call(desk: desk::Desk, line: &[u8]) -> desk::Desk {
-    let what = letter(line);
+    if line.len() == 0 {
+        return desk;
+    }
+    let what = line[0];
     if what == b'n' {
         return fresh();
     }
     if what == b'o' {
-        return open_line(desk, line);
+        return with_bytes(desk, line, 5);
     }
     if what == b'r' {
-        return reply_line(desk, line);
+        return with_bytes(desk, line, 1);
     }
     if what == b'c' {
         return cancel(desk, number(line, 1), byte(line, 2));
@@ -256,21 +251,18 @@ fn call(desk: desk::Desk, line: &[u8]) -> desk::Desk {
     desk
 }
 
-fn letter(line: &[u8]) -> u8 {
-    if 0 < line.len() {
-        return line[0];
+// A call with bytes in the line's word k.
+fn with_bytes(desk: desk::Desk, line: &[u8], k: usize) -> desk::Desk {
+    let mut bytes = [0u8; 16];
+    let n = hex_word(line, k, &mut bytes[0..16]);
+    if k == 1 {
+        return reply_line(desk, line, bytes, n);
     }
-    0
+    open_line(desk, line, bytes, n)
 }
 
-fn open_line(desk: desk::Desk, line: &[u8]) -> desk::Desk {
-    let mut data = [0u8; 4];
-    let n = hex_word(line, 5, &mut data[0..4]);
-    open_with(desk, line, data, n)
-}
-
-fn open_with(desk: desk::Desk, line: &[u8], data: [u8; 4], n: usize) -> desk::Desk {
-    if 4 < n {
+fn open_line(desk: desk::Desk, line: &[u8], data: [u8; 16], n: usize) -> desk::Desk {
+    if 16 < n {
         return desk;
     }
     open(
@@ -286,13 +278,7 @@ fn open_with(desk: desk::Desk, line: &[u8], data: [u8; 4], n: usize) -> desk::De
     )
 }
 
-fn reply_line(desk: desk::Desk, line: &[u8]) -> desk::Desk {
-    let mut frame = [0u8; 16];
-    let n = hex_word(line, 1, &mut frame[0..16]);
-    reply_with(desk, line, frame, n)
-}
-
-fn reply_with(desk: desk::Desk, line: &[u8], frame: [u8; 16], n: usize) -> desk::Desk {
+fn reply_line(desk: desk::Desk, line: &[u8], frame: [u8; 16], n: usize) -> desk::Desk {
     if 16 < n {
         return desk;
     }
@@ -524,7 +510,8 @@ fn lent(line: [u8; 260], room: usize) {
     if room < 259 {
         let end = room + 1;
         buffer(&line[1..end]);
-        beside(line[0], line[end]);
+        beside(line[0]);
+        beside(line[end]);
     }
 }
 
@@ -545,12 +532,9 @@ fn bytes(room: &[u8]) {
     }
 }
 
-fn beside(before: u8, after: u8) {
-    if before != UNTOUCHED {
-        say(b"the byte before the room was written\n");
-    }
-    if after != UNTOUCHED {
-        say(b"the byte after the room was written\n");
+fn beside(byte: u8) {
+    if byte != UNTOUCHED {
+        say(b"a byte beside the room was written\n");
     }
 }
 
