@@ -3,161 +3,170 @@
 // of tests/vectors/desk_night.calls. What it must write was not taken from this code: it is what
 // the model, which was written from the papers alone, answers to those lines.
 use libc::STDOUT_FILENO;
+ghost use Prim.Native.Nat.{_<_};
 
 // What stands in lent memory before a call.
 const UNTOUCHED: u8 = 0xee;
 
 fn main() {
-    accident();
-    jobs_and_modules();
-    types_and_waits();
-    rooms();
-    unread();
-    misfits();
-    kinds();
-    cancels();
-    clocks();
-    longest();
-    full_desk();
-    full_round();
-}
-
-// The night of the accident: two jobs, one line. The replies come crossed, and each reading lands on
-// its own ticket all the same.
-fn accident() {
-    let d = fresh();
-    let d = open(d, 7, 15, 4, 102, b"", 1000, 0, 12);
-    let d = open(d, 8, 10, 4, 17, b"", 1000, 0, 12);
-    let d = reply(d, b"\x0d\xa2\x0f\x08\x66\x34\x12\x58\xbb\x0a", 4);
-    let d = reply(d, b"\x0d\xa1\x5e\x4a\x08\x11\x5e\x9e\x91\xad\x9e\x0a", 4);
-    dump(d);
-    let d = reply(d, b"\x0d\xa1\x0f\x08\x66\x34\x12\x96\x5b\x0a", 4);
-    let d = reply(d, b"\x0d\xa1\x0f\x08\x66\x34\x12\x96\x5b\x0a", 4);
-    let d = reply(d, b"\x0d\xa2\x5e\x4a\x08\x11\x5e\x9e\x91\x63\x7e\x0a", 4);
-    dump(d);
-}
-
-// Rows 10 and 11 on both sides, and rows 10 to 14 ranked: each call has every later fault too.
-fn jobs_and_modules() {
-    let d = fresh();
-    let d = open(d, 0, 1, 4, 1, b"", 1, 0, 12);
-    let d = open(d, 1, 1, 4, 1, b"", 1, 0, 12);
-    let d = open(d, 1, 0, 4, 1, b"", 1, 0, 12);
-    let d = open(d, 1, 160, 4, 1, b"", 1, 0, 12);
-    let d = open(d, 1, 161, 4, 1, b"", 1, 0, 12);
-    let d = open(d, 0, 0, 0, 1, b"\x01", 0, 0, 12);
-    let d = open(d, 4294967295, 255, 3, 1, b"\x01", 60001, 0, 12);
-    let d = open(d, 1, 1, 8, 1, b"\x01", 0, 0, 12);
-    let d = open(d, 1, 1, 4, 1, b"\x01", 0, 0, 12);
-    let d = open(d, 1, 1, 4, 1, b"", 0, 0, 12);
-}
-
-// Rows 12 and 14 on both sides.
-fn types_and_waits() {
-    let d = fresh();
-    let d = open(d, 1, 1, 3, 1, b"", 1, 0, 12);
-    let d = open(d, 1, 1, 5, 1, b"", 1, 0, 12);
-    let d = open(d, 1, 1, 6, 1, b"", 1, 0, 12);
-    let d = open(d, 1, 1, 7, 1, b"", 1, 0, 12);
-    let d = open(d, 1, 1, 8, 1, b"", 1, 0, 12);
-    let d = open(d, 1, 1, 9, 1, b"", 1, 0, 12);
-    let d = open(d, 1, 1, 10, 1, b"", 1, 0, 12);
-    let d = open(d, 1, 1, 4, 1, b"", 0, 0, 12);
-    let d = open(d, 1, 1, 4, 1, b"", 60000, 0, 12);
-    let d = open(d, 1, 1, 4, 1, b"", 60001, 0, 12);
-}
-
-// Rows 13 and 16: a read with data, and a buffer of the telegram's length and one less. The address
-// that would be given decides the length, since remainder bytes may be converted.
-fn rooms() {
-    let d = fresh();
-    let d = open(d, 1, 15, 4, 48, b"\x03", 1, 0, 12);
-    let d = open(d, 1, 15, 5, 48, b"\x03", 1, 0, 8);
-    let d = open(d, 1, 15, 5, 48, b"\x03", 1, 0, 9);
-    let d = open(d, 1, 15, 5, 94, b"\x0d\x0a\x5e", 1, 0, 14);
-    let d = open(d, 1, 15, 5, 94, b"\x0d\x0a\x5e", 1, 0, 15);
-    let d = open(d, 0, 15, 5, 48, b"", 1, 0, 0);
-    let d = open(d, 1, 15, 5, 48, b"", 1, 0, 0);
-    dump(d);
-}
-
-// The reader's numbers, passed up: 1 to 4, 6 ahead of 17, 7, 8 and 9.
-fn unread() {
-    let d = fresh();
-    let d = open(d, 1, 15, 4, 48, b"", 1, 0, 12);
-    let d = reply(d, b"\x0d", 4);
-    let d = reply(d, b"\x0d\x0d\x0a", 4);
-    let d = reply(d, b"\x0d\x5e\x41\x0a", 4);
-    let d = reply(d, b"\x0d\x0a", 4);
-    let d = reply(
-        d,
-        b"\x0d\xc8\x0f\x08\x30\x01\x02\x03\x04\x05\x2e\x7f\x0a",
-        4,
+    // The night of the accident: two jobs, one line. The replies come crossed, and each reading lands on
+    // its own ticket all the same.
+    run(
+        desk::fresh(),
+        b"new
+open 7 15 4 102 - 1000 0 12
+open 8 10 4 17 - 1000 0 12
+reply 0da20f0866341258bb0a 4
+reply 0da15e4a08115e9e91ad9e0a 4
+dump
+reply 0da10f08663412965b0a 4
+reply 0da10f08663412965b0a 4
+reply 0da25e4a08115e9e91637e0a 4
+dump
+",
     );
-    let d = reply(d, b"\x0d\xa1\x0f\x08\x30\x01\xe8\xcf\x0a", 4);
-    let d = reply(d, b"\x0d\xa1\x00\x08\x30\x01\x3c\x20\x0a", 4);
-    let d = reply(d, b"\x0d\xa1\x0f\x5e\x4a\x30\x01\x86\xae\x0a", 4);
-    dump(d);
-}
-
-// Rows 17 to 20, each with every later fault too. A datagram may not carry register 0.
-fn misfits() {
-    let d = fresh();
-    let d = open(d, 1, 15, 4, 48, b"", 1, 0, 12);
-    let d = reply(d, b"\x0d\xa0\x10\x03\x31\xda\x34\x0a", 4);
-    let d = reply(d, b"\x0d\xa2\x10\x03\x31\x37\x5c\x0a", 4);
-    let d = reply(d, b"\x0d\xa1\x10\x03\x31\xac\x80\x0a", 4);
-    let d = reply(d, b"\x0d\xa1\x0f\x03\x31\xc3\xd2\x0a", 4);
-    let d = reply(d, b"\x0d\xa1\x0f\x08\x31\x1f\x28\x0a", 4);
-    let d = reply(d, b"\x0d\xa1\x0f\x08\x00\x39\x5a\x0a", 4);
-    let d = reply(d, b"\x0d\xa1\x0f\x08\x30\x01\x02\x03\x04\x47\x7c\x0a", 4);
-    dump(d);
-}
-
-// A write is acked, refused or put off, with its own register or 0, and never answered by a datagram.
-fn kinds() {
-    let d = fresh();
-    let d = open(d, 5, 15, 5, 48, b"", 1, 0, 12);
-    let d = open(d, 6, 15, 6, 48, b"", 1, 0, 12);
-    let d = open(d, 7, 15, 7, 48, b"", 1, 0, 12);
-    let d = open(d, 9, 15, 9, 48, b"", 1, 0, 12);
-    let d = reply(d, b"\x0d\xa1\x0f\x08\x30\x0f\x09\x0a", 4);
-    let d = reply(d, b"\x0d\xa1\x0f\x03\x30\xd3\xf3\x0a", 4);
-    let d = reply(d, b"\x0d\xa2\x0f\x00\x00\x2b\x2f\x0a", 4);
-    let d = reply(d, b"\x0d\xa3\x0f\x01\x30\x58\xf9\x0a", 4);
-    let d = reply(d, b"\x0d\xa4\x0f\x02\x00\x6a\xd4\x0a", 4);
-    let d = reply(d, b"\x0d\xa4\x0f\x02\x00\x6a\xd4\x0a", 4);
-}
-
-// Row 21 on both sides.
-fn cancels() {
-    let d = fresh();
-    let d = open(d, 7, 15, 4, 48, b"", 1, 0, 12);
-    let d = open(d, 8, 15, 4, 48, b"", 1, 0, 12);
-    let d = cancel(d, 8, 161);
-    let d = cancel(d, 0, 161);
-    let d = cancel(d, 0, 160);
-    let d = cancel(d, 7, 161);
-    let d = cancel(d, 7, 161);
-    let d = cancel(d, 8, 162);
-    dump(d);
-}
-
-// Row 22 on both sides: the clock that wraps, the lowest due address first, and a clock set back.
-fn clocks() {
-    let d = fresh();
-    let d = open(d, 1, 15, 4, 48, b"", 100, 4294967290, 12);
-    let d = open(d, 2, 15, 4, 48, b"", 1, 4294967290, 12);
-    let d = expire(d, 4294967290);
-    let d = expire(d, 93);
-    let d = expire(d, 93);
-    let d = expire(d, 94);
-    let d = open(d, 3, 15, 4, 48, b"", 60000, 1000, 12);
-    let d = expire(d, 60999);
-    let d = expire(d, 61000);
-    let d = open(d, 4, 15, 4, 48, b"", 60000, 1000, 12);
-    let d = expire(d, 1000);
-    let d = expire(d, 999);
+    // Rows 10 and 11 on both sides, and rows 10 to 14 ranked: each call has every later fault too.
+    run(
+        desk::fresh(),
+        b"new
+open 0 1 4 1 - 1 0 12
+open 1 1 4 1 - 1 0 12
+open 1 0 4 1 - 1 0 12
+open 1 160 4 1 - 1 0 12
+open 1 161 4 1 - 1 0 12
+open 0 0 0 1 01 0 0 12
+open 4294967295 255 3 1 01 60001 0 12
+open 1 1 8 1 01 0 0 12
+open 1 1 4 1 01 0 0 12
+open 1 1 4 1 - 0 0 12
+",
+    );
+    // Rows 12 and 14 on both sides.
+    run(
+        desk::fresh(),
+        b"new
+open 1 1 3 1 - 1 0 12
+open 1 1 5 1 - 1 0 12
+open 1 1 6 1 - 1 0 12
+open 1 1 7 1 - 1 0 12
+open 1 1 8 1 - 1 0 12
+open 1 1 9 1 - 1 0 12
+open 1 1 10 1 - 1 0 12
+open 1 1 4 1 - 0 0 12
+open 1 1 4 1 - 60000 0 12
+open 1 1 4 1 - 60001 0 12
+",
+    );
+    // Rows 13 and 16: a read with data, and a buffer of the telegram's length and one less. The address
+    // that would be given decides the length, since remainder bytes may be converted.
+    run(
+        desk::fresh(),
+        b"new
+open 1 15 4 48 03 1 0 12
+open 1 15 5 48 03 1 0 8
+open 1 15 5 48 03 1 0 9
+open 1 15 5 94 0d0a5e 1 0 14
+open 1 15 5 94 0d0a5e 1 0 15
+open 0 15 5 48 - 1 0 0
+open 1 15 5 48 - 1 0 0
+dump
+",
+    );
+    // The reader's numbers, passed up: 1 to 4, 6 ahead of 17, 7, 8 and 9.
+    run(
+        desk::fresh(),
+        b"new
+open 1 15 4 48 - 1 0 12
+reply 0d 4
+reply 0d0d0a 4
+reply 0d5e410a 4
+reply 0d0a 4
+reply 0dc80f083001020304052e7f0a 4
+reply 0da10f083001e8cf0a 4
+reply 0da1000830013c200a 4
+reply 0da10f5e4a300186ae0a 4
+dump
+",
+    );
+    // Rows 17 to 20, each with every later fault too. A datagram may not carry register 0.
+    run(
+        desk::fresh(),
+        b"new
+open 1 15 4 48 - 1 0 12
+reply 0da0100331da340a 4
+reply 0da2100331375c0a 4
+reply 0da1100331ac800a 4
+reply 0da10f0331c3d20a 4
+reply 0da10f08311f280a 4
+reply 0da10f0800395a0a 4
+reply 0da10f083001020304477c0a 4
+dump
+",
+    );
+    // A write is acked, refused or put off, with its own register or 0, and never answered by a datagram.
+    run(
+        desk::fresh(),
+        b"new
+open 5 15 5 48 - 1 0 12
+open 6 15 6 48 - 1 0 12
+open 7 15 7 48 - 1 0 12
+open 9 15 9 48 - 1 0 12
+reply 0da10f08300f090a 4
+reply 0da10f0330d3f30a 4
+reply 0da20f00002b2f0a 4
+reply 0da30f013058f90a 4
+reply 0da40f02006ad40a 4
+reply 0da40f02006ad40a 4
+",
+    );
+    // Row 21 on both sides.
+    run(
+        desk::fresh(),
+        b"new
+open 7 15 4 48 - 1 0 12
+open 8 15 4 48 - 1 0 12
+cancel 8 161
+cancel 0 161
+cancel 0 160
+cancel 7 161
+cancel 7 161
+cancel 8 162
+dump
+",
+    );
+    // Row 22 on both sides: the clock that wraps, the lowest due address first, and a clock set back.
+    run(
+        desk::fresh(),
+        b"new
+open 1 15 4 48 - 100 4294967290 12
+open 2 15 4 48 - 1 4294967290 12
+expire 4294967290
+expire 93
+expire 93
+expire 94
+open 3 15 4 48 - 60000 1000 12
+expire 60999
+expire 61000
+open 4 15 4 48 - 60000 1000 12
+expire 1000
+expire 999
+",
+    );
+    longest();
+    // All 95 addresses, and one more; then the turn passes over what is open and comes round.
+    run(
+        filled(fresh()),
+        b"open 96 15 4 48 - 1 0 12
+cancel 40 200
+cancel 3 163
+open 97 15 4 48 - 1 0 12
+open 98 15 4 48 - 1 0 7
+open 98 15 4 48 - 1 0 12
+dump
+",
+    );
+    // Each address is freed at once, and comes back only after all the others.
+    dump(rounded(fresh()));
 }
 
 // Rows 13 and 5 at the longest data: 240 bytes and one more, and a reply whose message has 247.
@@ -172,29 +181,12 @@ fn longest() {
     dump(d);
 }
 
-// All 95 addresses, and one more; then the turn passes over what is open and comes round.
-fn full_desk() {
-    let d = filled(fresh());
-    let d = read(d, 96, 12);
-    let d = cancel(d, 40, 200);
-    let d = cancel(d, 3, 163);
-    let d = read(d, 97, 12);
-    let d = read(d, 98, 7);
-    let d = read(d, 98, 12);
-    dump(d);
-}
-
 fn filled(desk: desk::Desk) -> desk::Desk {
     let mut d = desk;
     for job in 1u32..96 {
-        d = read(d, job, 12);
+        d = read(d, job);
     }
     d
-}
-
-// Each address is freed at once, and comes back only after all the others.
-fn full_round() {
-    dump(rounded(fresh()));
 }
 
 fn rounded(desk: desk::Desk) -> desk::Desk {
@@ -207,11 +199,153 @@ fn rounded(desk: desk::Desk) -> desk::Desk {
 
 fn turned(desk: desk::Desk, k: u8) -> desk::Desk {
     let job = k as u32 + 1;
-    cancel(read(desk, job, 12), job, 161 + k % 95)
+    cancel(read(desk, job), job, 161 + k % 95)
 }
 
-fn read(desk: desk::Desk, job: u32, room: usize) -> desk::Desk {
-    open(desk, job, 15, 4, 48, b"", 1, 0, room)
+fn read(desk: desk::Desk, job: u32) -> desk::Desk {
+    open(desk, job, 15, 4, 48, b"", 1, 0, 12)
+}
+
+// ---- call lines, as the model takes them but for the folder, and with the length of the lent room
+
+// Makes the call of each line.
+fn run(desk: desk::Desk, text: &[u8]) -> desk::Desk {
+    let mut d = desk;
+    let mut from = 0;
+    let mut i = 0;
+    while i < text.len() {
+        let end = i;
+        let b = text[i];
+        i += 1;
+        if b == 10 {
+            d = call(d, &text[from..end]);
+            from = i;
+        }
+    }
+    d
+}
+
+// new, or open JOB MODULE TYPE REGISTER DATA WAIT CLOCK ROOM, reply FRAME ROOM, cancel JOB ADDRESS,
+// expire CLOCK, dump
+fn call(desk: desk::Desk, line: &[u8]) -> desk::Desk {
+    if line.len() == 0 {
+        return desk;
+    }
+    let what = line[0];
+    if what == b'n' {
+        return fresh();
+    }
+    if what == b'o' {
+        return with_bytes(desk, line, 5);
+    }
+    if what == b'r' {
+        return with_bytes(desk, line, 1);
+    }
+    if what == b'c' {
+        return cancel(desk, number(line, 1), byte(line, 2));
+    }
+    if what == b'e' {
+        return expire(desk, number(line, 1));
+    }
+    dump(desk);
+    desk
+}
+
+// A call with bytes in the line's word k.
+fn with_bytes(desk: desk::Desk, line: &[u8], k: usize) -> desk::Desk {
+    let mut bytes = [0u8; 16];
+    let n = hex_word(line, k, &mut bytes[0..16]);
+    if k == 1 {
+        return reply_line(desk, line, bytes, n);
+    }
+    open_line(desk, line, bytes, n)
+}
+
+fn open_line(desk: desk::Desk, line: &[u8], data: [u8; 16], n: usize) -> desk::Desk {
+    if 16 < n {
+        return desk;
+    }
+    open(
+        desk,
+        number(line, 1),
+        byte(line, 2),
+        byte(line, 3),
+        byte(line, 4),
+        &data[0..n],
+        number(line, 6),
+        number(line, 7),
+        number(line, 8) as usize,
+    )
+}
+
+fn reply_line(desk: desk::Desk, line: &[u8], frame: [u8; 16], n: usize) -> desk::Desk {
+    if 16 < n {
+        return desk;
+    }
+    reply(desk, &frame[0..n], number(line, 2) as usize)
+}
+
+fn byte(line: &[u8], k: usize) -> u8 {
+    (number(line, k) % 256) as u8
+}
+
+// The number that the line's word k says, counted from 0.
+fn number(line: &[u8], k: usize) -> u32 {
+    let mut value: u64 = 0;
+    let mut word = 0;
+    let mut i = 0;
+    while i < line.len() {
+        let b = line[i];
+        i += 1;
+        if b == b' ' {
+            word += 1;
+            continue;
+        }
+        if word == k {
+            value = value % 4294967296 * 10 + decimal_digit(b);
+        }
+    }
+    (value % 4294967296) as u32
+}
+
+fn decimal_digit(b: u8) -> u64
+    ensures { λ r. ⌜ r < 16 ⌝ }
+{
+    (b % 16) as u64
+}
+
+// The bytes that the line's word k says, and how many; a - says none.
+fn hex_word(line: &[u8], k: usize, out: &mut [u8]) -> usize {
+    let mut digits = 0;
+    let mut word = 0;
+    let mut i = 0;
+    while i < line.len() {
+        let b = line[i];
+        i += 1;
+        if b == b' ' {
+            word += 1;
+            continue;
+        }
+        if word == k {
+            put(out, digits / 2, b);
+            digits += 1;
+        }
+    }
+    digits / 2
+}
+
+// One more digit of a byte.
+fn put(out: &mut [u8], at: usize, digit: u8) {
+    if at < out.len() {
+        out[at] = out[at] % 16 * 16 + value(digit) % 16;
+    }
+}
+
+fn value(digit: u8) -> u8 {
+    if digit <= b'9' {
+        return digit % 16;
+    }
+    (digit % 16 + 9) % 16
 }
 
 // ---- the calls, each with its answer line
@@ -376,7 +510,8 @@ fn lent(line: [u8; 260], room: usize) {
     if room < 259 {
         let end = room + 1;
         buffer(&line[1..end]);
-        beside(line[0], line[end]);
+        beside(line[0]);
+        beside(line[end]);
     }
 }
 
@@ -397,12 +532,9 @@ fn bytes(room: &[u8]) {
     }
 }
 
-fn beside(before: u8, after: u8) {
-    if before != UNTOUCHED {
-        say(b"the byte before the room was written\n");
-    }
-    if after != UNTOUCHED {
-        say(b"the byte after the room was written\n");
+fn beside(byte: u8) {
+    if byte != UNTOUCHED {
+        say(b"a byte beside the room was written\n");
     }
 }
 
