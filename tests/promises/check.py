@@ -173,7 +173,22 @@ def check_edits(text):
             cited |= {(part.group(1), name) for name in part.group(3).split(", ")}
     for crate, name in sorted(names.edits() - cited):
         fault("docs/PROMISES.md", f"does not name the wrong program {crate}/must-fail: {name}")
+    check_wrong(text)
     return len(names.edits())
+
+
+def check_wrong(text):
+    """Those of tests/wrong stand in the row of a call of their crate."""
+    cited = set()
+    for at, heading, cells in tables(text):
+        if heading == ROWS_OF_CALLS:
+            for span in spans(cells[-1]):
+                if span.startswith("tests/wrong/"):
+                    cited.add(span)
+                    if span.split("/")[2] != cells[0].strip("`").split("::")[0]:
+                        fault(f"docs/PROMISES.md:{at}", f"{span} is of another crate than {cells[0]}")
+    for path in sorted(names.wrong() - cited):
+        fault("docs/PROMISES.md", f'"{ROWS_OF_CALLS}" does not name the wrong program {path}')
 
 
 def check_specs():
@@ -260,7 +275,7 @@ def main(words):
     for at, sentence in still_open:
         print(f"promises: open, line {at}: {sentence}")
     print(f"promises: library crates: {' '.join(names.library())}")
-    print(f"promises: {calls} public calls, {edits} wrong programs{said}, {len(still_open)} rows open, {len(faults)} faults")
+    print(f"promises: {calls} public calls, {edits} wrong programs at the gate, {len(names.wrong())} on demand{said}, {len(still_open)} rows open, {len(faults)} faults")
     return 1 if faults else 0
 
 

@@ -56,7 +56,13 @@ def named(crate, part):
 
 
 def edits():
+    """The wrong programs that every gate tries."""
     return {(p.parts[-3], p.stem) for p in CRATES.glob("*/must-fail/*.edit")}
+
+
+def wrong():
+    """The wrong programs that tests/wrong/run tries on demand, as paths from the top."""
+    return {str(p.relative_to(ROOT)) for p in (ROOT / "tests" / "wrong").glob("*/*.edit")}
 
 
 class Call:
