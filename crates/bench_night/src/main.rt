@@ -33,7 +33,6 @@ const CLEAR: u8 = 7;
 const TOGGLE: u8 = 9;
 
 fn main() {
-    addresses();
     let mut rig = tester(varia());
     rig = reads_and_writes(rig);
     rig = bits(rig);
@@ -42,17 +41,13 @@ fn main() {
     strange();
 }
 
-// Number 34 on both sides: a bench has an address from 1 to 160.
-fn addresses() {
+// A VARIA at address 15, from the catalogue, with a status register whose bits may be written;
+// 34, 30, 31 and 32 on both sides.
+fn varia() -> Bench {
     make(0);
     make(161);
     make(160);
     make(1);
-}
-
-// A VARIA at address 15, from the catalogue, with a status register whose bits may be written;
-// 30, 31 and 32 on both sides.
-fn varia() -> Bench {
     let mut rig = make(15);
     rig = row(rig, VARIA, 0x13);
     rig = row(rig, VARIA, 0x66);
