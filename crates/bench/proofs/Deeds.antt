@@ -1,10 +1,11 @@
 -- What a request does, at the register's place.
 -- Assumes nothing.
-use mathlib.Core.Path.{_≡_}
+use mathlib.Core.Path.{_≡_, refl}
 use mathlib.Core.List.{List}
+use mathlib.Core.Logic.{inl}
 use Prim.Native.Nat.{ℕ, _≤_, _<_}
 use Rattle.deeds.specs.Deeds.{nack, heldDeed}
-use Rattle.deeds.proofs.Laws.{either, Small, nacked, held-small}
+use Rattle.deeds.proofs.Laws.{either, Small, nacked, held-small, Reply, held-reply}
 use Rattle.deeds.specs.declared.Register.{Register}
 use Rattle.deeds.specs.declared.Deed.{Deed}
 use Rattle.telegram.specs.declared.Fields.{Fields}
@@ -14,10 +15,14 @@ use Rattle.bench.proofs.Places.{held-so, held-not}
 use Rattle.bench.specs.declared.Bench.{Bench}
 use Rattle.bench.specs.declared.Seen.the-variants as seen
 
--- every reply is of type 0, 3 or 8 and carries at most 8 bytes
+-- every reply carries at most 8 bytes, and its type is 0, 3 or 8
 pub deed-small : (bench : Bench) (t : Fields) (bytes : List ℕ) → Small (deedOf bench t bytes)
 unfolding deedOf
 deed-small bench t bytes = either Small (isHeld bench (t .register)) _ _ (held-small (registerAt bench (placeOf bench (t .register))) (t .sort) bytes) (nacked 0)
+
+pub deed-reply : (bench : Bench) (t : Fields) (bytes : List ℕ) → Reply (deedOf bench t bytes)
+unfolding deedOf
+deed-reply bench t bytes = either Reply (isHeld bench (t .register)) _ _ (held-reply (registerAt bench (placeOf bench (t .register))) (t .sort) bytes) (inl refl)
 
 -- ---- at the register's place
 

@@ -24,6 +24,7 @@ use Rattle.bench.specs.declared.Fault.{Fault}
 use Rattle.bench.specs.declared.Fault.the-variants.{Unread}
 use Rattle.bench.specs.declared.Taking.the-variants.{Answered, Silent}
 use Rattle.bench.specs.declared.AfterTake.{AfterTake}
+use Rattle.bench.proofs.Deeds.{deed-reply}
 use Rattle.bench.proofs.Laws.{never-6, request-ranked}
 use Rattle.bench.proofs.Rules.{Answerable, reply-reads}
 
@@ -100,12 +101,13 @@ module _ (bench : Bench) (frame room : List ℕ) {r : AfterTake} {room′ : List
       under : (a b : ℕ) → (a < b → ⊥) → b ≤ a
       under a b h = omega arith
 
-  -- every reply is a telegram that the reader accepts, addressed to the asker, from the bench, with the register
+  -- every reply is a telegram that the reader accepts, addressed to the asker, from the bench, with the register: a nack, an ack or a datagram
   pub every-reply : (n : ℕ) → r .answer ≡ Answered n → (buffer : List ℕ) (a : Reading) (buffer′ : List ℕ) → 8 ≤ length buffer → Reads (take n room′) buffer a buffer′
       → (t : Fields) × (readFrame frame 240 ≡ Telegram t)
       × (u : Fields) × (a ≡ Telegram u) × (u .destination ≡ t .source) × (u .source ≡ bench .address) × (u .register ≡ t .register)
+      × ((u .sort ≡ 0) ⊎ ((u .sort ≡ 3) ⊎ (u .sort ≡ 8)))
   every-reply n e buffer a buffer′ wide reads =
       let may = answered-so n e in
       let back = reply-reads bench frame (fieldsOf (messageOf frame)) room may takes n e buffer a buffer′ wide reads
       (deedOf bench (fieldsOf (messageOf frame)) (dataOf (messageOf frame))) refl in
-      (fieldsOf (messageOf frame), may .read, _, back .0, refl, refl, refl)
+      (fieldsOf (messageOf frame), may .read, _, back .0, refl, refl, refl, deed-reply bench (fieldsOf (messageOf frame)) (dataOf (messageOf frame)))

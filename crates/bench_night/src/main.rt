@@ -21,81 +21,33 @@ const VARIA: u8 = 0x68;
 
 const COMPACT: u8 = 0x74;
 
-// The night's telegrams: how many bytes each has, how many bytes are lent for the reply, and then
-// the telegram as it stands on the wire, filled up with zeros.
-const WIRES: [[u8; 18]; 39] = [
-    // reads: the status word, with data, eight bytes, a register that is not there
-    *b"\x08\x10\x0d\x0f\xa2\x04\x66\xc7\xb6\x0a\x00\x00\x00\x00\x00\x00\x00\x00",
-    *b"\x09\x10\x0d\x0f\xa2\x04\x66\x00\x1f\xab\x0a\x00\x00\x00\x00\x00\x00\x00",
-    *b"\x08\x10\x0d\x0f\xa2\x04\x68\x26\x78\x0a\x00\x00\x00\x00\x00\x00\x00\x00",
-    *b"\x08\x10\x0d\x0f\xa2\x04\x77\xc5\xa6\x0a\x00\x00\x00\x00\x00\x00\x00\x00",
-    // writes: two bytes, read again, one byte, three bytes, without the right, not there
-    *b"\x0a\x10\x0d\x0f\xa2\x05\x32\x20\x03\x8a\xe1\x0a\x00\x00\x00\x00\x00\x00",
-    *b"\x08\x10\x0d\x0f\xa2\x04\x32\xdd\xc7\x0a\x00\x00\x00\x00\x00\x00\x00\x00",
-    *b"\x09\x10\x0d\x0f\xa2\x05\x32\x20\xce\x82\x0a\x00\x00\x00\x00\x00\x00\x00",
-    *b"\x0b\x10\x0d\x0f\xa2\x05\x32\x20\x03\x00\xd1\xc2\x0a\x00\x00\x00\x00\x00",
-    *b"\x0b\x10\x0d\x0f\xa2\x05\x66\x01\x00\x5e\x4d\x5b\x0a\x00\x00\x00\x00\x00",
-    *b"\x0a\x10\x0d\x0f\xa2\x05\x77\x01\x00\x79\x08\x0a\x00\x00\x00\x00\x00\x00",
-    // bits: toggled, set, cleared, a mask of one byte, without the right
-    *b"\x0a\x10\x0d\x0f\xa2\x09\x67\x00\x04\x06\xec\x0a\x00\x00\x00\x00\x00\x00",
-    *b"\x0a\x10\x0d\x0f\xa2\x06\x67\x82\x00\xef\x7c\x0a\x00\x00\x00\x00\x00\x00",
-    *b"\x0a\x10\x0d\x0f\xa2\x07\x67\x81\x04\x8c\x1f\x0a\x00\x00\x00\x00\x00\x00",
-    *b"\x09\x10\x0d\x0f\xa2\x09\x67\x01\x7e\xea\x0a\x00\x00\x00\x00\x00\x00\x00",
-    *b"\x0a\x10\x0d\x0f\xa2\x09\x32\x01\x00\xc0\x67\x0a\x00\x00\x00\x00\x00\x00",
-    // room for the ack, one byte less, none; room for a datagram with substitutions, one byte less
-    *b"\x0c\x08\x0d\x0f\xa2\x05\x33\x5e\x4d\x5e\x4a\x5c\x42\x0a\x00\x00\x00\x00",
-    *b"\x0a\x07\x0d\x0f\xa2\x05\x33\x34\x12\x70\x76\x0a\x00\x00\x00\x00\x00\x00",
-    *b"\x0a\x00\x0d\x0f\xa2\x05\x33\x34\x12\x70\x76\x0a\x00\x00\x00\x00\x00\x00",
-    *b"\x08\x0c\x0d\x0f\xa2\x04\x33\xcd\xe6\x0a\x00\x00\x00\x00\x00\x00\x00\x00",
-    *b"\x08\x0b\x0d\x0f\xa2\x04\x33\xcd\xe6\x0a\x00\x00\x00\x00\x00\x00\x00\x00",
-    // for another address; types 0, 1, 2, 3 and 8
-    *b"\x08\x10\x0d\x10\xa2\x04\x66\x08\xff\x0a\x00\x00\x00\x00\x00\x00\x00\x00",
-    *b"\x08\x10\x0d\x0f\xa2\x00\x66\x0b\x72\x0a\x00\x00\x00\x00\x00\x00\x00\x00",
-    *b"\x08\x10\x0d\x0f\xa2\x01\x66\x38\x43\x0a\x00\x00\x00\x00\x00\x00\x00\x00",
-    *b"\x08\x10\x0d\x0f\xa2\x02\x66\x6d\x10\x0a\x00\x00\x00\x00\x00\x00\x00\x00",
-    *b"\x09\x10\x0d\x0f\xa2\x03\x66\x5e\x9e\x21\x0a\x00\x00\x00\x00\x00\x00\x00",
-    *b"\x08\x10\x0d\x0f\xa2\x08\x66\x82\xdb\x0a\x00\x00\x00\x00\x00\x00\x00\x00",
-    // what the reader refuses: 1 to 4, 7, 8 at either end, 9
-    *b"\x01\x10\x0d\x00\x00\x00\x00\x00\x00\x00\x00\x00\x00\x00\x00\x00\x00\x00",
-    *b"\x03\x10\x0d\x0d\x0a\x00\x00\x00\x00\x00\x00\x00\x00\x00\x00\x00\x00\x00",
-    *b"\x04\x10\x0d\x5e\x41\x0a\x00\x00\x00\x00\x00\x00\x00\x00\x00\x00\x00\x00",
-    *b"\x02\x10\x0d\x0a\x00\x00\x00\x00\x00\x00\x00\x00\x00\x00\x00\x00\x00\x00",
-    *b"\x0a\x10\x0d\x0f\xa2\x05\x32\x55\x55\x47\x7f\x0a\x00\x00\x00\x00\x00\x00",
-    *b"\x08\x10\x0d\x00\xa2\x04\x32\x09\x29\x0a\x00\x00\x00\x00\x00\x00\x00\x00",
-    *b"\x08\x10\x0d\x0f\x00\x04\x32\x0e\x3b\x0a\x00\x00\x00\x00\x00\x00\x00\x00",
-    *b"\x09\x10\x0d\x0f\xa2\x5e\x4a\x32\xfe\xc8\x0a\x00\x00\x00\x00\x00\x00\x00",
-    // the COMPACT: a value below 0 read, a value written and read; its 32nd register
-    *b"\x09\x10\x0d\x5e\x4a\xa2\x04\x1b\xd4\xc9\x0a\x00\x00\x00\x00\x00\x00\x00",
-    *b"\x10\x10\x0d\x5e\x4a\xa2\x05\x33\x5e\x9e\x5e\x4d\x5e\x4a\x00\xef\x56\x0a",
-    *b"\x09\x10\x0d\x5e\x4a\xa2\x04\x33\x71\xa3\x0a\x00\x00\x00\x00\x00\x00\x00",
-    *b"\x09\x10\x0d\x5e\x4a\xa2\x04\x99\x65\x03\x0a\x00\x00\x00\x00\x00\x00\x00",
-    // a write with no data
-    *b"\x08\x10\x0d\x0f\xa2\x05\x66\xf4\x87\x0a\x00\x00\x00\x00\x00\x00\x00\x00",
-];
+// Types of request.
+const READ: u8 = 4;
+
+const WRITE: u8 = 5;
+
+const SET: u8 = 6;
+
+const CLEAR: u8 = 7;
+
+const TOGGLE: u8 = 9;
 
 fn main() {
-    addresses();
     let mut rig = tester(varia());
     rig = reads_and_writes(rig);
     rig = bits(rig);
-    rig = rooms(rig);
-    rig = others(rig);
-    unread(rig);
+    unread(silent(rig));
     full(compact());
     strange();
 }
 
-// Number 34 on both sides: a bench has an address from 1 to 160.
-fn addresses() {
+// A VARIA at address 15, from the catalogue, with a status register whose bits may be written;
+// 34, 30, 31 and 32 on both sides.
+fn varia() -> Bench {
     make(0);
     make(161);
     make(160);
     make(1);
-}
-
-// A VARIA at address 15, from the catalogue, with a status register whose bits may be written;
-// 30, 31 and 32 on both sides.
-fn varia() -> Bench {
     let mut rig = make(15);
     rig = row(rig, VARIA, 0x13);
     rig = row(rig, VARIA, 0x66);
@@ -130,62 +82,72 @@ fn tester(before: Bench) -> Bench {
 
 // Reads with the right and no data, writes of exactly the kind's size, and not so.
 fn reads_and_writes(before: Bench) -> Bench {
-    let mut rig = four(before, 0);
-    rig = four(rig, 4);
-    rig = tele(rig, 8);
-    rig = tele(rig, 9);
+    let mut rig = ask(before, 15, READ, 0x66, 0, 0, 16);
+    rig = ask(rig, 15, READ, 0x66, 1, 0, 16);
+    rig = ask(rig, 15, READ, 0x68, 0, 0, 16);
+    rig = ask(rig, 15, READ, 0x77, 0, 0, 16);
+    rig = ask(rig, 15, WRITE, 0x32, 2, 0x0320, 16);
+    rig = ask(rig, 15, READ, 0x32, 0, 0, 16);
+    rig = ask(rig, 15, WRITE, 0x32, 1, 0x20, 16);
+    rig = ask(rig, 15, WRITE, 0x32, 3, 0x0320, 16);
+    rig = ask(rig, 15, WRITE, 0x66, 2, 1, 16);
+    rig = ask(rig, 15, WRITE, 0x77, 2, 1, 16);
     look(rig, 0x32);
     rig
 }
 
 // Bits of the status register toggled, set and cleared; and without the size or the right.
 fn bits(before: Bench) -> Bench {
-    let mut rig = tele(before, 10);
+    let mut rig = ask(before, 15, TOGGLE, 0x67, 2, 0x0400, 16);
     look(rig, 0x67);
-    rig = tele(rig, 11);
+    rig = ask(rig, 15, SET, 0x67, 2, 0x0082, 16);
     look(rig, 0x67);
-    rig = tele(rig, 12);
+    rig = ask(rig, 15, CLEAR, 0x67, 2, 0x0481, 16);
     look(rig, 0x67);
-    rig = tele(rig, 13);
-    rig = tele(rig, 14);
+    rig = ask(rig, 15, TOGGLE, 0x67, 1, 1, 16);
+    rig = ask(rig, 15, TOGGLE, 0x32, 2, 1, 16);
     look(rig, 0x32);
     rig
 }
 
-// 37: a buffer of the reply's length, and one byte less, with the register as it was.
-fn rooms(before: Bench) -> Bench {
-    let mut rig = tele(before, 15);
-    rig = tele(rig, 16);
+// 37: a buffer of the reply's length, and one byte less, with the register as it was. Then 35, and
+// 36 for the types that no host sends.
+fn silent(before: Bench) -> Bench {
+    let mut rig = ask(before, 15, WRITE, 0x33, 2, 0x0a0d, 8);
+    rig = ask(rig, 15, WRITE, 0x33, 2, 0x1234, 7);
     look(rig, 0x33);
-    rig = tele(rig, 17);
-    rig = tele(rig, 18);
-    rig = tele(rig, 19);
+    rig = ask(rig, 15, WRITE, 0x33, 2, 0x1234, 0);
+    rig = ask(rig, 15, READ, 0x33, 0, 0, 12);
+    rig = ask(rig, 15, READ, 0x33, 0, 0, 11);
+    rig = ask(rig, 16, READ, 0x66, 0, 0, 16);
+    rig = ask(rig, 15, 0, 0x66, 0, 0, 16);
+    rig = ask(rig, 15, 1, 0x66, 0, 0, 16);
+    rig = ask(rig, 15, 2, 0x66, 0, 0, 16);
+    rig = ask(rig, 15, 3, 0x66, 0, 0, 16);
+    rig = ask(rig, 15, 8, 0x66, 0, 0, 16);
     rig
 }
 
-// 35 and 36: for another address, and what no host sends.
-fn others(before: Bench) -> Bench {
-    let mut rig = four(before, 20);
-    rig = tele(rig, 24);
-    rig = tele(rig, 25);
-    rig
-}
-
-// What the reader refuses: 1 to 5 and 7 to 9.
+// What the reader refuses: 1 to 5 and 7 to 9, in frames that no writer makes.
 fn unread(before: Bench) {
-    let mut rig = four(before, 26);
-    rig = four(rig, 30);
-    rig = too_long(rig);
+    let mut rig = tele(before, b"\x0d");
+    rig = tele(rig, b"\x0d\x0d\x0a");
+    rig = tele(rig, b"\x0d\x5e\x41\x0a");
+    rig = tele(rig, b"\x0d\x0a");
+    rig = tele(rig, b"\x0d\x0f\xa2\x05\x32\x55\x55\x47\x7f\x0a");
+    rig = tele(rig, b"\x0d\x00\xa2\x04\x32\x09\x29\x0a");
+    rig = tele(rig, b"\x0d\x0f\x00\x04\x32\x0e\x3b\x0a");
+    rig = tele(rig, b"\x0d\x0f\xa2\x5e\x4a\x32\xfe\xc8\x0a");
+    rig = tele(rig, &too_long());
     look(rig, 0x32);
 }
 
 // A message of 247 bytes.
-fn too_long(rig: Bench) -> Bench {
+fn too_long() -> [u8; 249] {
     let mut frame = [1u8; 249];
     frame[0] = 13;
     frame[248] = 10;
-    let mut room = [0xaau8; 16];
-    take(rig, &frame, &mut room)
+    frame
 }
 
 // A COMPACT at address 10, from the catalogue: a value below 0 read, a value written and read.
@@ -199,9 +161,9 @@ fn compact() -> Bench {
     rig = row(rig, COMPACT, 0x33);
     rig = set(rig, 0x1b, Value::Negative(4));
     rig = set(rig, 0x1b, Value::Negative(32768));
-    rig = tele(rig, 34);
-    rig = tele(rig, 35);
-    rig = tele(rig, 36);
+    rig = ask(rig, 10, READ, 0x1b, 0, 0, 16);
+    rig = ask(rig, 10, WRITE, 0x33, 4, 0x000a0d5e, 16);
+    rig = ask(rig, 10, READ, 0x33, 0, 0, 16);
     rig
 }
 
@@ -216,13 +178,13 @@ fn full(before: Bench) {
     look(rig, 0x99);
     look(rig, 0x9a);
     rig = add(rig, 0x99, 1, 1);
-    tele(rig, 37);
+    ask(rig, 10, READ, 0x99, 0, 0, 16);
 }
 
 // A bench that no call made: a count of 99, and 32 times a register of kind 0, which has no bytes.
 // All 32 are held, the first of them is the one that answers, and one more is too many (33). No
 // number is one of kind 0 (43). A read answers a datagram without data, and a write without data
-// has exactly the kind's size: ack, and the value is 0.
+// has exactly the kind's size: ack.
 fn strange() {
     let register = Register {
         number: 0x66,
@@ -242,12 +204,11 @@ fn strange() {
     rig = add(rig, 0x33, 3, 3);
     rig = set(rig, 0x66, Value::Natural(0));
     rig = set(rig, 0x33, Value::Natural(0));
-    rig = tele(rig, 0);
-    rig = tele(rig, 8);
-    rig = tele(rig, 18);
-    value(rig, 0x66);
-    rig = tele(rig, 38);
-    value(rig, 0x66);
+    rig = ask(rig, 15, READ, 0x66, 0, 0, 16);
+    rig = ask(rig, 15, WRITE, 0x66, 2, 1, 16);
+    rig = ask(rig, 15, READ, 0x33, 0, 0, 12);
+    rig = ask(rig, 15, WRITE, 0x66, 0, 0, 16);
+    look(rig, 0x66);
 }
 
 // ---- the calls, each with its answer in a line
@@ -344,67 +305,40 @@ fn say_register(register: Register) {
     say(b"\n");
 }
 
-// The number that a register keeps, also where its kind has no bytes.
-fn value(rig: Bench, number: u8) {
-    match bench::look(rig, number) {
-        Seen::Held(register) => say_number(register.value),
-        Seen::NotHeld => say(b"not held"),
-    }
-    say(b"\n");
-}
-
-// Four telegrams of the table, from a place on.
-fn four(before: Bench, at: usize) -> Bench {
-    let mut rig = before;
-    if at < 100 {
-        rig = tele(rig, at);
-        rig = tele(rig, at + 1);
-        rig = tele(rig, at + 2);
-        rig = tele(rig, at + 3);
-    }
-    rig
-}
-
-// A telegram of the table.
-fn tele(rig: Bench, at: usize) -> Bench {
-    if at < WIRES.len() {
-        let w = WIRES[at];
-        let frame = [
-            w[2],
-            w[3],
-            w[4],
-            w[5],
-            w[6],
-            w[7],
-            w[8],
-            w[9],
-            w[10],
-            w[11],
-            w[12],
-            w[13],
-            w[14],
-            w[15],
-            w[16],
-            w[17],
-        ];
-        return send(rig, &frame, count(w[0]), count(w[1]));
-    }
-    rig
-}
-
-// The first n of these bytes, with so many bytes aa lent for the reply, at most 16.
-fn send(rig: Bench, frame: &[u8], n: usize, lent: usize) -> Bench {
+// A request from host 162, with so many bytes of a value, lowest first, and so many bytes aa lent for
+// the reply, at most 16.
+fn ask(
+    rig: Bench,
+    module: u8,
+    sort: u8,
+    register: u8,
+    size: usize,
+    value: u64,
+    lent: usize,
+) -> Bench {
+    let mut bytes = [0u8; 8];
+    values::store(value, size, &mut bytes);
+    let mut frame = [0u8; 32];
     let mut room = [0xaau8; 16];
-    if n <= frame.len() {
-        if lent <= 16 {
-            return take(rig, &frame[0..n], &mut room[0..lent]);
+    if size <= 8 {
+        match telegram::write(module, 162, sort, register, &bytes[0..size], &mut frame) {
+            telegram::Writing::Refused(_) => {}
+            telegram::Writing::Written(n) => {
+                if n <= 32 {
+                    if lent <= 16 {
+                        return take(rig, &frame[0..n], &mut room[0..lent]);
+                    }
+                }
+            }
         }
     }
     rig
 }
 
-fn count(byte: u8) -> usize {
-    byte as usize
+// A frame as it stands on the wire.
+fn tele(rig: Bench, frame: &[u8]) -> Bench {
+    let mut room = [0xaau8; 16];
+    take(rig, frame, &mut room)
 }
 
 fn take(rig: Bench, frame: &[u8], room: &mut [u8]) -> Bench {

@@ -110,7 +110,7 @@ unfolding writeDeed
 write-small register right n v =
     either Small (hasRight register right && eqb n (sizeOf (register .kind))) (ack v) (nack (register .value)) (omega arith, omega arith) (nacked (register .value))
 
--- every reply is of type 0, 3 or 8 and carries at most 8 bytes
+-- the type is at most 9 and there are at most 8 bytes
 pub held-small : (register : Register) (sort : ℕ) (bytes : List ℕ) → Small (heldDeed register sort bytes)
 unfolding heldDeed
 held-small register sort bytes =
@@ -119,6 +119,28 @@ held-small register sort bytes =
     (either Small (eqb sort 6) _ _ (write-small register 4 (length bytes) (setBits (register .value) (natural bytes)))
     (either Small (eqb sort 7) _ _ (write-small register 4 (length bytes) (clearBits (register .value) (natural bytes)))
     (either Small (eqb sort 9) _ _ (write-small register 4 (length bytes) (toggleBits (register .value) (natural bytes))) (nacked (register .value))))))
+
+-- the types that a bench answers with: nack, ack and datagram
+abbrev pub Reply : Deed → Type 0
+Reply deed = (deed .sort ≡ 0) ⊎ ((deed .sort ≡ 3) ⊎ (deed .sort ≡ 8))
+
+read-reply : (register : Register) (n : ℕ) → Reply (readDeed register n)
+unfolding readDeed
+read-reply register n = either Reply (hasRight register 1 && eqb n 0) (datagram register) (nack (register .value)) (inr (inr refl)) (inl refl)
+
+write-reply : (register : Register) (right n v : ℕ) → Reply (writeDeed register right n v)
+unfolding writeDeed
+write-reply register right n v =
+    either Reply (hasRight register right && eqb n (sizeOf (register .kind))) (ack v) (nack (register .value)) (inr (inl refl)) (inl refl)
+
+pub held-reply : (register : Register) (sort : ℕ) (bytes : List ℕ) → Reply (heldDeed register sort bytes)
+unfolding heldDeed
+held-reply register sort bytes =
+    either Reply (eqb sort 4) _ _ (read-reply register (length bytes))
+    (either Reply (eqb sort 5) _ _ (write-reply register 2 (length bytes) (natural bytes))
+    (either Reply (eqb sort 6) _ _ (write-reply register 4 (length bytes) (setBits (register .value) (natural bytes)))
+    (either Reply (eqb sort 7) _ _ (write-reply register 4 (length bytes) (clearBits (register .value) (natural bytes)))
+    (either Reply (eqb sort 9) _ _ (write-reply register 4 (length bytes) (toggleBits (register .value) (natural bytes))) (inl refl)))))
 
 -- ---- a value that fits its kind still does afterwards
 

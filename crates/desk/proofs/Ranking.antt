@@ -1,8 +1,10 @@
 -- Rows 10 to 22 are tested as 01 words them, in the order of each call: what a call refuses is what its rows give.
 -- Assumes nothing.
-use mathlib.Core.Path.{_≡_, sym, ap, _∙_}
+use mathlib.Core.Path.{_≡_, refl, sym, ap, _∙_}
 use mathlib.Core.Bool.{true, false, not, true≢false}
 use mathlib.Core.List.{List}
+use mathlib.Core.Logic.{_↔_}
+use mathlib.Core.Option.{Option, none}
 use Prim.Native.Nat.{ℕ, _+_, _-_, _%_, _<_}
 use native.Mathlib.Omega.{arith}
 use borrow.Author.Tests.{leb-true, leb-false, not-true, not-false}
@@ -12,8 +14,8 @@ use Rattle.first.proofs.Laws.{Ended, ended}
 use Rattle.frame.specs.Frame.{messageOf}
 use Rattle.request.proofs.Laws.{ask-ranked}
 use Rattle.request.specs.Request.{askRows, askRefusal}
-use Rattle.rows.proofs.Laws.{Decides, decides-lt, decides-eq, decides-not, decides-and, decides-set, ranked, _otherwise_, ranked-append, ranked-up}
-use Rattle.rows.specs.Rows.{Ranked, firstOf, passedUp, raised}
+use Rattle.rows.proofs.Laws.{Decides, decides-lt, decides-eq, decides-not, decides-and, decides-set, ranked, _otherwise_, ranked-append, ranked-up, told-exactly, clash}
+use Rattle.rows.specs.Rows.{First, NoRow, Ranked, firstOf, passedUp, raised}
 use Rattle.telegram.proofs.Ranking.{read-ranked}
 use Rattle.telegram.specs.Read.{readRows, readRefusal, fieldsOf}
 use Rattle.telegram.specs.declared.Fields.{Fields}
@@ -21,12 +23,19 @@ use Rattle.waiting.proofs.Laws.{fit-ranked, decides-due}
 use Rattle.waiting.specs.Due.{IsDue, isDue}
 use Rattle.waiting.specs.Fit.{fitRows, fitRefusal}
 use Rattle.waiting.specs.declared.Ticket.{Ticket}
-use Rattle.desk.specs.Close.{IsNotTheirs, cancelRows, cancelRefusal, IsNothingDue, expireRows, duePlace, expireRefusal, cancelTests, expireTests}
-use Rattle.desk.specs.Open.{placeFrom, distanceOf, givenPlace, requestAt, IsAllOpen, IsNoRoom, placeRows, placeTests, openRefusal, openRows}
-use Rattle.desk.specs.Reply.{bookRows, replyRows, bookRefusal, replyRefusal}
+use Rattle.desk.specs.Close.{IsNotTheirs, cancelRows, cancelRefusal, IsNothingDue, expireRows, duePlace, expireRefusal, cancelTests, expireTests, closeAnswer, Cancels, Expires}
+use Rattle.desk.specs.Open.{placeFrom, distanceOf, givenPlace, requestAt, IsAllOpen, IsNoRoom, placeRows, placeTests, openRefusal, openRows, openAnswer, newTicket, Opens}
+use Rattle.desk.specs.Reply.{bookRows, replyRows, bookRefusal, replyRefusal, bookAnswer, Replies}
 use Rattle.desk.specs.Ticket.{ticketAt, ticketOn}
 use Rattle.desk.specs.declared.Desk.{Desk}
+use Rattle.desk.specs.declared.Fault.{Fault}
 use Rattle.desk.specs.declared.Fault.the-variants.{Denied, Unread, Misfit}
+use Rattle.desk.specs.declared.AfterOpen.{AfterOpen}
+use Rattle.desk.specs.declared.AfterReply.{AfterReply}
+use Rattle.desk.specs.declared.AfterClose.{AfterClose}
+use Rattle.desk.specs.declared.Opening.the-variants as opening
+use Rattle.desk.specs.declared.Booking.the-variants as booking
+use Rattle.desk.specs.declared.Closing.the-variants as closing
 
 -- ---- 15 and 16
 
@@ -111,3 +120,39 @@ decides-nothing-due desk clock = record { so = nothing; not-so = some-due }
 pub expire-ranked : (desk : Desk) (clock : ℕ) → Ranked (expireRows desk clock) (expireRefusal desk clock)
 unfolding expireRows expireRefusal
 expire-ranked desk clock = ranked (expireTests (duePlace desk clock)) (expireRows desk clock) (decides-nothing-due desk clock otherwise λ n₂₂. tt)
+
+-- ---- and so of the calls' answers, by their contracts, both ways: `.0` for each number, `.1` for none
+
+pub open-exactly : (desk : Desk) (job unit sort register : ℕ) (bytes : List ℕ) (wait clock : ℕ) (room : List ℕ) (r : AfterOpen) (room′ : List ℕ)
+    → Opens desk job unit sort register bytes wait clock room r room′
+    → ((f : Fault) → (r .answer ≡ opening.Refused f) ↔ First (openRows desk (newTicket job unit sort register wait clock) bytes (length room)) f)
+    × ((r .answer ≡ opening.Opened (161 + givenPlace desk) (length (requestAt (givenPlace desk) (newTicket job unit sort register wait clock) bytes)))
+    ↔ NoRow (openRows desk (newTicket job unit sort register wait clock) bytes (length room)))
+open-exactly desk job unit sort register bytes wait clock room r room′ o =
+    rw (o .0) (told-exactly (λ (x : Option Fault). openAnswer x (161 + givenPlace desk) (length (requestAt (givenPlace desk) ticket bytes))) opening.Refused
+    (λ f. refl) (λ f g e. cc) (λ f e. clash (cc)) (openRows desk ticket bytes (length room)) (openRefusal desk ticket bytes (length room))
+    (open-ranked desk ticket bytes (length room)))
+  where
+    ticket : Ticket
+    ticket = newTicket job unit sort register wait clock
+
+pub reply-exactly : (desk : Desk) (frame room : List ℕ) (r : AfterReply) (room′ : List ℕ) → Replies desk frame room r room′
+    → ((f : Fault) → (r .answer ≡ booking.Refused f) ↔ First (replyRows desk frame (length room)) f)
+    × ((r .answer ≡ bookAnswer none (ticketOn desk (fieldsOf (messageOf frame) .destination)) (fieldsOf (messageOf frame))) ↔ NoRow (replyRows desk frame (length room)))
+reply-exactly desk frame room r room′ o =
+    rw (o .0) (told-exactly (λ (x : Option Fault). bookAnswer x (ticketOn desk (fieldsOf (messageOf frame) .destination)) (fieldsOf (messageOf frame))) booking.Refused
+    (λ f. refl) (λ f g e. cc) (λ f e. clash (cc)) (replyRows desk frame (length room)) (replyRefusal desk frame (length room)) (reply-ranked desk frame (length room)))
+
+pub cancel-exactly : (desk : Desk) (job address : ℕ) (r : AfterClose) → Cancels desk job address r
+    → ((f : Fault) → (r .answer ≡ closing.Refused f) ↔ First (cancelRows desk job address) f)
+    × ((r .answer ≡ closing.Closed (ticketOn desk address .job) address) ↔ NoRow (cancelRows desk job address))
+cancel-exactly desk job address r o =
+    rw (o .0) (told-exactly (λ (x : Option Fault). closeAnswer x (ticketOn desk address) address) closing.Refused
+    (λ f. refl) (λ f g e. cc) (λ f e. clash (cc)) (cancelRows desk job address) (cancelRefusal desk job address) (cancel-ranked desk job address))
+
+pub expire-exactly : (desk : Desk) (clock : ℕ) (r : AfterClose) → Expires desk clock r
+    → ((f : Fault) → (r .answer ≡ closing.Refused f) ↔ First (expireRows desk clock) f)
+    × ((r .answer ≡ closing.Closed (ticketOn desk (161 + duePlace desk clock) .job) (161 + duePlace desk clock)) ↔ NoRow (expireRows desk clock))
+expire-exactly desk clock r o =
+    rw (o .0) (told-exactly (λ (x : Option Fault). closeAnswer x (ticketOn desk (161 + duePlace desk clock)) (161 + duePlace desk clock)) closing.Refused
+    (λ f. refl) (λ f g e. cc) (λ f e. clash (cc)) (expireRows desk clock) (expireRefusal desk clock) (expire-ranked desk clock))

@@ -9,8 +9,24 @@ ghost use Prim.Native.Nat.{_<_};
 const UNTOUCHED: u8 = 0xee;
 
 fn main() {
-    // The night of the accident: two jobs, one line. The replies come crossed, and each reading lands on
-    // its own ticket all the same.
+    accident();
+    who_asks();
+    what_is_asked();
+    data_and_room();
+    unread();
+    replies();
+    writes();
+    cancelled();
+    due();
+    longest();
+    all_open();
+    // Each address is freed at once, and comes back only after all the others.
+    dump(rounded(fresh()));
+}
+
+// The night of the accident: two jobs, one line. The replies come crossed, and each reading lands on
+// its own ticket all the same.
+fn accident() {
     run(
         desk::fresh(),
         b"new
@@ -25,7 +41,10 @@ reply 0da25e4a08115e9e91637e0a 4
 dump
 ",
     );
-    // Rows 10 and 11 on both sides, and rows 10 to 14 ranked: each call has every later fault too.
+}
+
+// Rows 10 and 11 on both sides, and rows 10 to 14 ranked: each call has every later fault too.
+fn who_asks() {
     run(
         desk::fresh(),
         b"new
@@ -41,7 +60,10 @@ open 1 1 4 1 01 0 0 12
 open 1 1 4 1 - 0 0 12
 ",
     );
-    // Rows 12 and 14 on both sides.
+}
+
+// Rows 12 and 14 on both sides.
+fn what_is_asked() {
     run(
         desk::fresh(),
         b"new
@@ -57,8 +79,11 @@ open 1 1 4 1 - 60000 0 12
 open 1 1 4 1 - 60001 0 12
 ",
     );
-    // Rows 13 and 16: a read with data, and a buffer of the telegram's length and one less. The address
-    // that would be given decides the length, since remainder bytes may be converted.
+}
+
+// Rows 13 and 16: a read with data, and a buffer of the telegram's length and one less. The address
+// that would be given decides the length, since remainder bytes may be converted.
+fn data_and_room() {
     run(
         desk::fresh(),
         b"new
@@ -72,7 +97,10 @@ open 1 15 5 48 - 1 0 0
 dump
 ",
     );
-    // The reader's numbers, passed up: 1 to 4, 6 ahead of 17, 7, 8 and 9.
+}
+
+// The reader's numbers, passed up: 1 to 4, 6 ahead of 17, 7, 8 and 9.
+fn unread() {
     run(
         desk::fresh(),
         b"new
@@ -88,7 +116,10 @@ reply 0da10f5e4a300186ae0a 4
 dump
 ",
     );
-    // Rows 17 to 20, each with every later fault too. A datagram may not carry register 0.
+}
+
+// Rows 17 to 20, each with every later fault too. A datagram may not carry register 0.
+fn replies() {
     run(
         desk::fresh(),
         b"new
@@ -103,7 +134,10 @@ reply 0da10f083001020304477c0a 4
 dump
 ",
     );
-    // A write is acked, refused or put off, with its own register or 0, and never answered by a datagram.
+}
+
+// A write is acked, refused or put off, with its own register or 0, and never answered by a datagram.
+fn writes() {
     run(
         desk::fresh(),
         b"new
@@ -119,7 +153,10 @@ reply 0da40f02006ad40a 4
 reply 0da40f02006ad40a 4
 ",
     );
-    // Row 21 on both sides.
+}
+
+// Row 21 on both sides.
+fn cancelled() {
     run(
         desk::fresh(),
         b"new
@@ -134,7 +171,10 @@ cancel 8 162
 dump
 ",
     );
-    // Row 22 on both sides: the clock that wraps, the lowest due address first, and a clock set back.
+}
+
+// Row 22 on both sides: the clock that wraps, the lowest due address first, and a clock set back.
+fn due() {
     run(
         desk::fresh(),
         b"new
@@ -152,8 +192,10 @@ expire 1000
 expire 999
 ",
     );
-    longest();
-    // All 95 addresses, and one more; then the turn passes over what is open and comes round.
+}
+
+// All 95 addresses, and one more; then the turn passes over what is open and comes round.
+fn all_open() {
     run(
         filled(fresh()),
         b"open 96 15 4 48 - 1 0 12
@@ -165,8 +207,6 @@ open 98 15 4 48 - 1 0 12
 dump
 ",
     );
-    // Each address is freed at once, and comes back only after all the others.
-    dump(rounded(fresh()));
 }
 
 // Rows 13 and 5 at the longest data: 240 bytes and one more, and a reply whose message has 247.

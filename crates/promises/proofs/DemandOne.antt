@@ -8,12 +8,10 @@
 -- Assumes nothing.
 use mathlib.Core.Path.{_≡_, refl, sym, ap₂, _∙_}
 use mathlib.Core.List.{List}
-use mathlib.Core.Logic.{_↔_}
 use mathlib.Core.Option.{Option, some, none}
 use Prim.Native.Nat.{ℕ, _+_}
 use lib.ListN.{length}
-use Rattle.rows.proofs.Laws.{told-exactly, clash}
-use Rattle.rows.specs.Rows.{Row, First, NoRow, Ranked}
+use Rattle.rows.proofs.Laws.{clash}
 use Rattle.promises.specs.Settled.{Settled}
 use Rattle.frame.specs.Frame.{messageOf}
 use Rattle.telegram.proofs.Judge.{reading-refused}
@@ -45,19 +43,12 @@ use Rattle.bench.specs.declared.Fault.{Fault as Silence}
 use Rattle.bench.specs.declared.AfterBuild.{AfterBuild}
 use Rattle.bench.specs.declared.AfterTake.{AfterTake}
 use Rattle.desk.proofs.Laws.{opens-once, replies-once, cancels-once, expires-once}
-use Rattle.request.proofs.Laws.{ask-ranked}
-use Rattle.request.specs.Request.{askRows, askRefusal, askAnswer, Asks}
-use Rattle.request.specs.declared.Fault.{Fault as Denial}
+use Rattle.request.specs.Request.{askRefusal, askAnswer, Asks}
 use Rattle.request.specs.declared.Asking.{Asking}
-use Rattle.request.specs.declared.Asking.the-variants.{Allowed, Denied}
-use Rattle.desk.proofs.Ranking.{open-ranked, reply-ranked, cancel-ranked, expire-ranked}
-use Rattle.desk.specs.Close.{cancelRows, expireRows, cancelRefusal, closeAnswer, closeDesk, Cancels, duePlace, expireRefusal, Expires}
-use Rattle.desk.specs.Open.{openRows, openRefusal, openAnswer, openDesk, openRoom, givenPlace, newTicket, requestAt, Opens}
-use Rattle.desk.specs.Reply.{replyRows, replyRefusal, bookAnswer, bookDesk, bookRoom, Replies}
+use Rattle.desk.specs.Close.{cancelRefusal, closeAnswer, closeDesk, Cancels, duePlace, expireRefusal, Expires}
+use Rattle.desk.specs.Open.{openRefusal, openAnswer, openDesk, openRoom, givenPlace, newTicket, requestAt, Opens}
+use Rattle.desk.specs.Reply.{replyRefusal, bookAnswer, bookDesk, bookRoom, Replies}
 use Rattle.desk.specs.Ticket.{ticketOn}
-use Rattle.desk.specs.declared.Opening.the-variants as opening
-use Rattle.desk.specs.declared.Booking.the-variants as booking
-use Rattle.desk.specs.declared.Closing.the-variants as closing
 use Rattle.desk.specs.declared.Desk.{Desk}
 use Rattle.desk.specs.declared.Fault.{Fault as Refusal}
 use Rattle.waiting.specs.declared.Ticket.{Ticket}
@@ -72,7 +63,11 @@ use Rattle.kamzhor.specs.declared.ValueAnswer.{ValueAnswer}
 
 -- rows 1 to 9
 pub use Rattle.telegram.proofs.Ranking.{read-exactly, write-exactly}
--- rows 10 to 22: below; rows 30 to 38, and 6, which cannot arise
+-- rows 10 to 22
+pub use Rattle.request.proofs.Laws.{ask-exactly}
+pub use Rattle.waiting.proofs.Laws.{fit-exactly}
+pub use Rattle.desk.proofs.Ranking.{open-exactly, reply-exactly, cancel-exactly, expire-exactly}
+-- rows 30 to 38, and 6, which cannot arise
 pub use Rattle.bench.proofs.Laws.{make-exactly, add-exactly, set-exactly, take-exactly, never-6}
 -- rows 40 to 44
 pub use Rattle.values.proofs.Laws.{read-exactly as value-read-exactly, stored-exactly, write-exactly as value-write-exactly}
@@ -102,44 +97,6 @@ settled-with {A} {B} x y =
 
 both : {A B : Type 0} {x y : A × B} → (x .0 ≡ y .0) × (x .1 ≡ y .1) → x ≡ y
 both {A} {B} e = ap₂ (λ (a : A) (b : B). (a, b)) (e .0) (e .1)
-
--- ---- rows 10 to 22: each number exactly when its row holds and no earlier one does (`.0`), and done exactly when none does (`.1`)
-
-module _ (job unit sort : ℕ) (bytes : List ℕ) (wait : ℕ) where
-  pub ask-exactly : ((f : Denial) → (askAnswer (askRefusal job unit sort bytes wait) ≡ Denied f) ↔ First (askRows job unit sort bytes wait) f)
-      × ((askAnswer (askRefusal job unit sort bytes wait) ≡ Allowed) ↔ NoRow (askRows job unit sort bytes wait))
-  ask-exactly =
-      told-exactly askAnswer Denied (λ f. refl) (λ f g e. cc) (λ f e. clash (cc)) (askRows job unit sort bytes wait) (askRefusal job unit sort bytes wait)
-      (ask-ranked job unit sort bytes wait)
-
-module _ (desk : Desk) (ticket : Ticket) (bytes : List ℕ) (room address n : ℕ) where
-  pub open-exactly : ((f : Refusal) → (openAnswer (openRefusal desk ticket bytes room) address n ≡ opening.Refused f) ↔ First (openRows desk ticket bytes room) f)
-      × ((openAnswer (openRefusal desk ticket bytes room) address n ≡ opening.Opened address n) ↔ NoRow (openRows desk ticket bytes room))
-  open-exactly =
-      told-exactly (λ (o : Option Refusal). openAnswer o address n) opening.Refused (λ f. refl) (λ f g e. cc) (λ f e. clash (cc))
-      (openRows desk ticket bytes room) (openRefusal desk ticket bytes room) (open-ranked desk ticket bytes room)
-
-module _ (desk : Desk) (frame : List ℕ) (room : ℕ) (ticket : Ticket) (t : Fields) where
-  pub reply-exactly : ((f : Refusal) → (bookAnswer (replyRefusal desk frame room) ticket t ≡ booking.Refused f) ↔ First (replyRows desk frame room) f)
-      × ((bookAnswer (replyRefusal desk frame room) ticket t ≡ booking.Booked (ticket .job) (t .destination) (t .sort) (t .size)) ↔ NoRow (replyRows desk frame room))
-  reply-exactly =
-      told-exactly (λ (o : Option Refusal). bookAnswer o ticket t) booking.Refused (λ f. refl) (λ f g e. cc) (λ f e. clash (cc))
-      (replyRows desk frame room) (replyRefusal desk frame room) (reply-ranked desk frame room)
-
-closing-exactly : (ticket : Ticket) (address : ℕ) (rs : List (Row Refusal)) (o : Option Refusal) → Ranked rs o
-    → ((f : Refusal) → (closeAnswer o ticket address ≡ closing.Refused f) ↔ First rs f) × ((closeAnswer o ticket address ≡ closing.Closed (ticket .job) address) ↔ NoRow rs)
-closing-exactly ticket address =
-    told-exactly (λ (o : Option Refusal). closeAnswer o ticket address) closing.Refused (λ f. refl) (λ f g e. cc) (λ f e. clash (cc))
-
-module _ (desk : Desk) (job address : ℕ) (ticket : Ticket) where
-  pub cancel-exactly : ((f : Refusal) → (closeAnswer (cancelRefusal desk job address) ticket address ≡ closing.Refused f) ↔ First (cancelRows desk job address) f)
-      × ((closeAnswer (cancelRefusal desk job address) ticket address ≡ closing.Closed (ticket .job) address) ↔ NoRow (cancelRows desk job address))
-  cancel-exactly = closing-exactly ticket address (cancelRows desk job address) (cancelRefusal desk job address) (cancel-ranked desk job address)
-
-module _ (desk : Desk) (clock address : ℕ) (ticket : Ticket) where
-  pub expire-exactly : ((f : Refusal) → (closeAnswer (expireRefusal desk clock) ticket address ≡ closing.Refused f) ↔ First (expireRows desk clock) f)
-      × ((closeAnswer (expireRefusal desk clock) ticket address ≡ closing.Closed (ticket .job) address) ↔ NoRow (expireRows desk clock))
-  expire-exactly = closing-exactly ticket address (expireRows desk clock) (expireRefusal desk clock) (expire-ranked desk clock)
 
 -- ---- telegrams
 

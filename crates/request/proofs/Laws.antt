@@ -2,14 +2,14 @@
 -- Assumes nothing.
 use mathlib.Core.Path.{_≡_, refl, sym, _∙_}
 use mathlib.Core.List.{List}
-use mathlib.Core.Logic.{_≢_, _⊎_, inl, inr, ⊎-elim}
+use mathlib.Core.Logic.{_≢_, _⊎_, inl, inr, ⊎-elim, _↔_}
 use mathlib.Core.Option.{Option, some, none}
 use Prim.Native.Nat.{ℕ, _≤_, _<_}
 use native.Mathlib.Omega.{arith}
 use native.Mathlib.Decide.{decLe}
 use lib.ListN.{length}
-use Rattle.rows.proofs.Laws.{Decides, decides-lt, decides-le, decides-eq, decides-not, decides-or, decides-and, ranked, _otherwise_, done-exactly}
-use Rattle.rows.specs.Rows.{Ranked}
+use Rattle.rows.proofs.Laws.{Decides, decides-lt, decides-le, decides-eq, decides-not, decides-or, decides-and, ranked, _otherwise_, done-exactly, told-exactly, clash}
+use Rattle.rows.specs.Rows.{First, NoRow, Ranked}
 use Rattle.request.specs.Request.{IsNoJob, IsNotAModule, IsNotARequest, IsWrongData, IsWrongWait, askRows, oneTo, askTests, askRefusal, askAnswer, Asks, Numbers}
 use Rattle.request.specs.declared.Fault.{Fault}
 use Rattle.request.specs.declared.Asking.{Asking}
@@ -29,6 +29,14 @@ ask-ranked job unit sort bytes wait =
   where
     one-to : (most x : ℕ) → Decides (oneTo most x) ((1 ≤ x) × (x ≤ most))
     one-to most x = decides-and (decides-le 1 x) (decides-le x most)
+
+-- and so of the answer, both ways: `.0` for each number, `.1` for none
+pub ask-exactly : (job unit sort : ℕ) (bytes : List ℕ) (wait : ℕ)
+    → ((f : Fault) → (askAnswer (askRefusal job unit sort bytes wait) ≡ Denied f) ↔ First (askRows job unit sort bytes wait) f)
+    × ((askAnswer (askRefusal job unit sort bytes wait) ≡ Allowed) ↔ NoRow (askRows job unit sort bytes wait))
+ask-exactly job unit sort bytes wait =
+    told-exactly askAnswer Denied (λ f. refl) (λ f g e. cc) (λ f e. clash (cc)) (askRows job unit sort bytes wait) (askRefusal job unit sort bytes wait)
+    (ask-ranked job unit sort bytes wait)
 
 -- what an answer tells of the refusal that it was made from
 pub asked-denied : (o : Option Fault) (f : Fault) → Denied f ≡ askAnswer o → o ≡ some f

@@ -2,14 +2,14 @@
 -- Assumes nothing.
 use mathlib.Core.Path.{_≡_, refl, sym, _∙_}
 use mathlib.Core.Bool.{Bool, true, false, cond, not}
-use mathlib.Core.Logic.{_⊎_, inl, inr, ⊎-elim}
+use mathlib.Core.Logic.{_⊎_, inl, inr, ⊎-elim, _↔_}
 use mathlib.Core.Option.{Option, some, none}
 use Prim.Native.Nat.{ℕ, zero, suc, _+_, _-_, _%_, _^_, _≤_, _<_}
 use native.Mathlib.Omega.{arith}
 use borrow.Author.Tests.{eqb-true, not-false}
 use lib.Dec.{eqb}
-use Rattle.rows.proofs.Laws.{Decides, decides-le, decides-eq, decides-not, decides-or, decides-and, decides-if, decides-set, decides-as, ranked, _otherwise_, first-false}
-use Rattle.rows.specs.Rows.{Ranked}
+use Rattle.rows.proofs.Laws.{Decides, decides-le, decides-eq, decides-not, decides-or, decides-and, decides-if, decides-set, decides-as, ranked, _otherwise_, first-false, told-exactly, clash}
+use Rattle.rows.specs.Rows.{First, NoRow, Ranked}
 use Rattle.telegram.specs.declared.Fields.{Fields}
 use Rattle.waiting.specs.Due.{age, IsDue, isDue, TellsDue}
 use Rattle.waiting.specs.Fit.{KindFits, RegisterFits, IsNoTicket, IsOtherModule, IsOtherKind, IsOtherRegister, fitRows, kindFits, registerFits, fitTests, fitRefusal, fitAnswer, Judges, Numbers}
@@ -46,6 +46,12 @@ fit-ranked ticket t =
     decides-not (decides-eq (t .source) (ticket .unit)) otherwise λ n₁₈.
     decides-not (decides-kind (ticket .sort) (t .sort)) otherwise λ n₁₉.
     decides-not (decides-register (ticket .register) (t .sort) (t .register)) otherwise λ n₂₀. tt)
+
+-- and so of the answer, both ways: `.0` for each number, `.1` for none
+pub fit-exactly : (ticket : Ticket) (t : Fields)
+    → ((f : Fault) → (fitAnswer (fitRefusal ticket t) ≡ Misfit f) ↔ First (fitRows ticket t) f) × ((fitAnswer (fitRefusal ticket t) ≡ Fits) ↔ NoRow (fitRows ticket t))
+fit-exactly ticket t =
+    told-exactly fitAnswer Misfit (λ f. refl) (λ f g e. cc) (λ f e. clash (cc)) (fitRows ticket t) (fitRefusal ticket t) (fit-ranked ticket t)
 
 -- what no row refuses fits
 pub fitting : (ticket : Ticket) (t : Fields) → fitRefusal ticket t ≡ none
