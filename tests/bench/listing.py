@@ -1,5 +1,6 @@
-"""listing.py OURS THEIRS CAPTURE..: runs two programs on each capture, compares what they write, and prints what whole runs
-take, less runs on no bytes, as ns for each byte: medians of the processor time that the system counts for a run."""
+"""listing.py OURS THEIRS CAPTURE..: runs two programs on each capture and on its first bytes, compares what they write, and
+prints what the rest of the capture takes as ns for each byte: the median processor time of whole runs, less that of runs
+on the first bytes. So neither the start of a program counts nor the emulator's first look at its code."""
 import os
 import statistics
 import subprocess
@@ -7,6 +8,7 @@ import sys
 import tempfile
 
 ROUNDS = 101
+FIRST = 4096
 
 
 def words(program):
@@ -24,20 +26,24 @@ def run(command, capture):
         return (used.ru_utime + used.ru_stime) * 1e9, written.read()
 
 
-def net(command, captures):
-    """For each capture the median of runs on it, less that of runs on no bytes; the runs take turns."""
+def rest(command, captures):
+    """For each capture the median of runs on it, less that of runs on its first bytes; the runs take turns."""
     times = [[run(command, c)[0] for c in captures] for _ in range(ROUNDS)]
-    start, *rest = (statistics.median(t) for t in zip(*times))
-    return start, rest
+    medians = [statistics.median(t) for t in zip(*times)]
+    return [whole - first for whole, first in zip(medians[::2], medians[1::2])]
 
 
 ours, theirs = words(sys.argv[1]), words(sys.argv[2])
-captures = [os.devnull, *sys.argv[3:]]
+captures = []
+for path in sys.argv[3:]:
+    first = path + ".first"
+    with open(path, "rb") as whole, open(first, "wb") as part:
+        part.write(whole.read(FIRST))
+    captures += [path, first]
 for capture in captures:
     if run(ours, capture)[1] != run(theirs, capture)[1]:
         sys.exit(f"bench: FAILED, the two listings of {capture} differ")
-(x0, xs), (y0, ys) = net(ours, captures), net(theirs, captures)
-print(f"start alone: proved {x0 / 1e6:.1f} ms, plain C {y0 / 1e6:.1f} ms; {ROUNDS} rounds")
-for capture, x, y in zip(captures[1:], xs, ys):
-    size = os.path.getsize(capture)
-    print(f"{os.path.basename(capture):6} listing, less the start: proved {x / size:.2f}, plain C {y / size:.2f}, ratio {x / y:.2f}")
+print(f"medians of {ROUNDS} rounds, less those of the first {FIRST} bytes")
+for capture, x, y in zip(captures[::2], rest(ours, captures), rest(theirs, captures)):
+    size = os.path.getsize(capture) - FIRST
+    print(f"{os.path.basename(capture):6} listing    {size:7}  proved {x / size:.2f}, plain C {y / size:.2f}, ratio {x / y:.2f}")
