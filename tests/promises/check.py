@@ -160,6 +160,17 @@ def check_call(call, row):
     said = names.statement(laws[0].group(1), laws[0].group(3))
     if len(re.findall(rf"\b{call.contract}\b", said)) < 2:
         fault(where, f"{laws[0].group(3)} of {laws[0].group(1)} does not speak of two outcomes of {call.contract}")
+    if wrong_programs(cells[3]) < 2:
+        fault(where, f"{name} has fewer than two wrong programs")
+
+
+def wrong_programs(cell):
+    """How many a cell names: edits of the gate, edits on demand, and a call below whose own wrong programs count here too."""
+    count = 0
+    for span in spans(cell):
+        part = PART.fullmatch(span)
+        count += len(part.group(3).split(", ")) if part and part.group(2) == "must-fail" else 1
+    return count
 
 
 # ---- wrong programs, and what a reader has to believe

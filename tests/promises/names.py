@@ -11,7 +11,7 @@ CRATES = ROOT / "crates"
 WORDS = r"(?:(?:abbrev|unfoldable|opaque)\s+)*"
 ANTT = re.compile(rf"^(?:{WORDS}|\s*{WORDS}pub\s+)(?:(?:record|data)\s+(\S+)|([^\s:({{]+)\s*:(?=\s|$))", re.M)
 # a function, constant, type or module of Rattle
-RATTLE = re.compile(r"^\s*(?:pub\s+)?(?:extern\s+\"C\"\s+)?(?:fn|const|static|struct|enum|mod)\s+(\w+)", re.M)
+RATTLE = re.compile(r"^\s*(?:pub(?:\(crate\))?\s+)?(?:extern\s+\"C\"\s+)?(?:fn|const|static|struct|enum|mod)\s+(\w+)", re.M)
 
 
 def read(path):
