@@ -1,9 +1,9 @@
 -- The bits of bytes, and the polynomial that they are.
 -- Assumes nothing.
 use mathlib.Core.Path.{_≡_, refl, sym, ap, ap₂, _∙_}
-use mathlib.Core.List.{List, [], _∷_, _++_, append-assoc}
-use Prim.Native.Nat.{ℕ, zero, suc, _+_, _-_, _*_, _/_, _%_, _^_, _≤_, _<_}
-use native.Mathlib.Nat.{suc-inj, mul-suc, mul-zero, add-assoc, mul-assoc, add-mul, zero-add, mul-one, add-zero, mul-pos, eq-zero-or-pos, mod-lt}
+use mathlib.Core.List.{List, [], _∷_, _++_}
+use Prim.Native.Nat.{ℕ, zero, suc, _+_, _-_, _*_, _/_, _%_, _^_, _<_}
+use native.Mathlib.Nat.{suc-inj, mul-one, add-zero, mul-pos, eq-zero-or-pos}
 use native.Mathlib.Omega.{arith}
 use lib.Arith.{digits-lt}
 use lib.Bits.{bitXor, xor-shr, xor-mod, xor-block}

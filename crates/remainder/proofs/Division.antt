@@ -1,18 +1,18 @@
 -- Division by x^16 + x^12 + x^5 + 1: what a polynomial leaves is one number, and how sums and multiples go with it.
 -- Assumes nothing.
-use mathlib.Core.Path.{_≡_, refl, sym, ap, ap₂, _∙_, subst}
+use mathlib.Core.Path.{_≡_, refl, sym, ap, ap₂, _∙_}
 use mathlib.Core.Logic.{⊎-elim}
 use mathlib.Core.Bool.{Bool, true, false, cond}
 use Prim.Native.Nat.{ℕ, zero, suc, _+_, _-_, _*_, _/_, _%_, _^_, _≤_, _<_}
-use native.Mathlib.Nat.{div-add-mod', mul-right-comm, mul-assoc, mul-one, pow-suc, div-eq-of-lt, le-div-iff-mul-le, one-mul, eq-zero-or-pos, eq-of-mul-eq-mul-right, zero-lt-suc, add-comm}
+use native.Mathlib.Nat.{div-add-mod', mul-right-comm, mul-assoc, mul-one, pow-suc, div-eq-of-lt, le-div-iff-mul-le, one-mul, eq-zero-or-pos, eq-of-mul-eq-mul-right, zero-lt-suc}
 use native.Mathlib.Omega.{arith}
-use borrow.Author.Tests.{lt-ltb, le-ltb, ltb-true, ltb-false}
+use borrow.Author.Tests.{ltb-true, ltb-false}
 use lib.Arith.{bin-ind}
-use lib.Bits.{bitXor, xor-shr, xor-mod, xor-block, xor-comm, xor-self, xor-zero-r, xor-lt, xor-shifted}
+use lib.Bits.{bitXor, xor-shr, xor-mod, xor-block, xor-self, xor-zero-r, xor-lt, xor-shifted}
 use lib.Dec.{ltb}
 use lib.Pow.{pow-pos}
 use Rattle.remainder.specs.Remainder.{_⊕_, timesDivisor, Leaves, timesX, timesXs}
-use Rattle.remainder.proofs.Sum.{sum-assoc, sum-cancel, sum-zero, sum-exchange, sum-shift}
+use Rattle.remainder.proofs.Sum.{sum-zero, sum-exchange, sum-shift}
 
 -- ---- multiples of the divisor
 

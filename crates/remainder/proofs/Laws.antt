@@ -1,16 +1,16 @@
 -- What is promised of the remainder, each law under the sentence that it keeps: M is the mission's, 01 the specification's.
 -- Assumes nothing.
-use mathlib.Core.Path.{_≡_, refl, sym, ap, ap₂, _∙_, subst}
-use mathlib.Core.Logic.{_≢_, _↔_, ⊎-elim}
+use mathlib.Core.Path.{_≡_, refl, sym, ap, ap₂, _∙_}
+use mathlib.Core.Logic.{_≢_, _↔_}
 use mathlib.Core.List.{List, [], _∷_, _++_}
 use Prim.Native.Nat.{ℕ, zero, suc, _+_, _-_, _*_, _/_, _%_, _^_, _≤_, _<_}
-use native.Mathlib.Nat.{le-trans, mul-one, mul-suc, mul-assoc, le-total, eq-zero-or-pos, mod-eq-of-lt, div-add-mod', lt-of-lt-of-le}
+use native.Mathlib.Nat.{mul-suc, mul-assoc, lt-of-lt-of-le}
 use native.Mathlib.Omega.{arith}
-use native.Mathlib.Decide.{decLe, decLt}
-use lib.Bits.{bitXor, xor-shifted, xor-self, xor-zero-r}
+use native.Mathlib.Decide.{decLt}
+use lib.Bits.{bitXor, xor-shifted, xor-self}
 use lib.ListN.{length, getD, take, drop, take-append-drop, length-take, List·getD-eq-default}
-use lib.Pow.{pow-pos, pow-add, pow-mono}
-use lib.Seq.{getD-take, getD-drop, drop-drop}
+use lib.Pow.{pow-add, pow-mono}
+use lib.Seq.{getD-take, getD-drop}
 use Rattle.remainder.specs.Remainder.{_⊕_, bits, polynomial, Leaves, IsRemainder, timesXs, withByte, withBytes, remainderOf, timesX, combined, Burst, AlteredNearby, Remains}
 use Rattle.remainder.proofs.Sum.{sum-zero, sum-shift}
 use Rattle.remainder.proofs.Division.{leaves-one, leaves-self, leaves-sum, leaves-timesXs, unshifts}

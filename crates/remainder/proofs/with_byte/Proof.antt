@@ -1,7 +1,7 @@
 -- `with_byte` is `withByte`. The invariant: what is still to be done to `next` gives the result.
 -- Assumes nothing.
-use mathlib.Core.Path.{_≡_, refl, sym, ap, _∙_}
-use Prim.Native.Nat.{ℕ, zero, suc, _<_, _+_, _-_, _*_, _%_, _^_, _≤_}
+use mathlib.Core.Path.{_≡_, sym, ap}
+use Prim.Native.Nat.{ℕ, zero, suc, _<_, _-_, _*_, _^_, _≤_}
 use native.Mathlib.Nat.{mod-eq-of-lt}
 use native.Mathlib.Numerals.{sub-one}
 use native.Mathlib.Omega.{arith}
@@ -9,9 +9,6 @@ use borrow.Author.Needs.{needs}
 use Rattle.remainder.specs.Remainder.{timesX, timesXs, withByte, _⊕_}
 use Rattle.remainder.proofs.with_byte.Statement.{statement}
 use Rattle.remainder.proofs.with_byte.Tie as tie
-use Rattle.remainder.proofs.with_byte.Reads as reads
-use Rattle.remainder.proofs.with_byte.Lts as lts
-use Rattle.remainder.proofs.times_x.Reads as times-x-reads
 
 step : (left next result w : ℕ) → 0 < left → result ≡ timesX next → timesXs left next ≡ w → timesXs (left - 1) result ≡ w
 unfolding timesXs
