@@ -3,10 +3,15 @@
 // of tests/vectors/desk_night.calls. What it must write was not taken from this code: it is what
 // the model, which was written from the papers alone, answers to those lines.
 use libc::STDOUT_FILENO;
-ghost use Prim.Native.Nat.{_<_};
+use words::Words;
+use words::byte;
+use words::word32;
 
 // What stands in lent memory before a call.
 const UNTOUCHED: u8 = 0xee;
+
+// The most that a number of 32 bits can be.
+const MOST: u64 = 4294967295;
 
 fn main() {
     accident();
@@ -252,140 +257,98 @@ fn read(desk: desk::Desk, job: u32) -> desk::Desk {
 fn run(desk: desk::Desk, text: &[u8]) -> desk::Desk {
     let mut d = desk;
     let mut from = 0;
-    let mut i = 0;
-    while i < text.len() {
-        let end = i;
-        let b = text[i];
-        i += 1;
-        if b == 10 {
-            d = call(d, &text[from..end]);
-            from = i;
-        }
+    while from < text.len() {
+        let to = words::seek(text, from, b'\n');
+        d = call(d, &text[from..to]);
+        from = to + 1;
     }
     d
 }
 
-// new, or open JOB MODULE TYPE REGISTER DATA WAIT CLOCK ROOM, reply FRAME ROOM, cancel JOB ADDRESS,
-// expire CLOCK, dump
+// The first letter tells the call: new, open, reply, cancel, expire or dump. Where the rest of the
+// line does not read so, no call is made, and its answer is missing.
 fn call(desk: desk::Desk, line: &[u8]) -> desk::Desk {
     if line.len() == 0 {
         return desk;
     }
     let what = line[0];
+    let w = words::word(words::start(), line);
     if what == b'n' {
         return fresh();
     }
     if what == b'o' {
-        return with_bytes(desk, line, 5);
+        return open_line(desk, w, line);
     }
     if what == b'r' {
-        return with_bytes(desk, line, 1);
+        return reply_line(desk, w, line);
     }
     if what == b'c' {
-        return cancel(desk, number(line, 1), byte(line, 2));
+        return cancel_line(desk, w, line);
     }
     if what == b'e' {
-        return expire(desk, number(line, 1));
+        return expire_line(desk, w, line);
     }
     dump(desk);
     desk
 }
 
-// A call with bytes in the line's word k.
-fn with_bytes(desk: desk::Desk, line: &[u8], k: usize) -> desk::Desk {
-    let mut bytes = [0u8; 16];
-    let n = hex_word(line, k, &mut bytes[0..16]);
-    if k == 1 {
-        return reply_line(desk, line, bytes, n);
+// open JOB MODULE TYPE REGISTER DATA WAIT CLOCK ROOM
+fn open_line(desk: desk::Desk, w: Words, line: &[u8]) -> desk::Desk {
+    let mut data = [0u8; 16];
+    let job = words::number(w, line, MOST);
+    let unit = words::number(job, line, 255);
+    let sort = words::number(unit, line, 255);
+    let register = words::number(sort, line, 255);
+    let p = words::bytes(register, line, &mut data);
+    let wait = words::number(p, line, MOST);
+    let clock = words::number(wait, line, MOST);
+    let room = words::number(clock, line, MOST);
+    let n = words::count(p.value, &data);
+    if words::done(room, line) {
+        return open(
+            desk,
+            word32(job.value),
+            byte(unit.value),
+            byte(sort.value),
+            byte(register.value),
+            &data[..n],
+            word32(wait.value),
+            word32(clock.value),
+            room.value as usize,
+        );
     }
-    open_line(desk, line, bytes, n)
+    desk
 }
 
-fn open_line(desk: desk::Desk, line: &[u8], data: [u8; 16], n: usize) -> desk::Desk {
-    if 16 < n {
-        return desk;
+// reply FRAME ROOM
+fn reply_line(desk: desk::Desk, w: Words, line: &[u8]) -> desk::Desk {
+    let mut frame = [0u8; 16];
+    let p = words::bytes(w, line, &mut frame);
+    let room = words::number(p, line, MOST);
+    let n = words::count(p.value, &frame);
+    if words::done(room, line) {
+        return reply(desk, &frame[..n], room.value as usize);
     }
-    open(
-        desk,
-        number(line, 1),
-        byte(line, 2),
-        byte(line, 3),
-        byte(line, 4),
-        &data[0..n],
-        number(line, 6),
-        number(line, 7),
-        number(line, 8) as usize,
-    )
+    desk
 }
 
-fn reply_line(desk: desk::Desk, line: &[u8], frame: [u8; 16], n: usize) -> desk::Desk {
-    if 16 < n {
-        return desk;
+// cancel JOB ADDRESS
+fn cancel_line(desk: desk::Desk, w: Words, line: &[u8]) -> desk::Desk {
+    let job = words::number(w, line, MOST);
+    let address = words::number(job, line, 255);
+    if words::done(address, line) {
+        return cancel(desk, word32(job.value), byte(address.value));
     }
-    reply(desk, &frame[0..n], number(line, 2) as usize)
+    desk
 }
 
-fn byte(line: &[u8], k: usize) -> u8 {
-    (number(line, k) % 256) as u8
-}
-
-// The number that the line's word k says, counted from 0.
-fn number(line: &[u8], k: usize) -> u32 {
-    let mut value: u64 = 0;
-    let mut word = 0;
-    let mut i = 0;
-    while i < line.len() {
-        let b = line[i];
-        i += 1;
-        if b == b' ' {
-            word += 1;
-            continue;
-        }
-        if word == k {
-            value = value % 4294967296 * 10 + decimal_digit(b);
-        }
+// expire CLOCK
+fn expire_line(desk: desk::Desk, w: Words, line: &[u8]) -> desk::Desk {
+    let clock = words::number(w, line, MOST);
+    if words::done(clock, line) {
+        return expire(desk, word32(clock.value));
     }
-    (value % 4294967296) as u32
-}
-
-fn decimal_digit(b: u8) -> u64
-    ensures { λ r. ⌜ r < 16 ⌝ }
-{
-    (b % 16) as u64
-}
-
-// The bytes that the line's word k says, and how many; a - says none.
-fn hex_word(line: &[u8], k: usize, out: &mut [u8]) -> usize {
-    let mut digits = 0;
-    let mut word = 0;
-    let mut i = 0;
-    while i < line.len() {
-        let b = line[i];
-        i += 1;
-        if b == b' ' {
-            word += 1;
-            continue;
-        }
-        if word == k {
-            put(out, digits / 2, b);
-            digits += 1;
-        }
-    }
-    digits / 2
-}
-
-// One more digit of a byte.
-fn put(out: &mut [u8], at: usize, digit: u8) {
-    if at < out.len() {
-        out[at] = out[at] % 16 * 16 + value(digit) % 16;
-    }
-}
-
-fn value(digit: u8) -> u8 {
-    if digit <= b'9' {
-        return digit % 16;
-    }
-    (digit % 16 + 9) % 16
+    desk
 }
 
 // ---- the calls, each with its answer line

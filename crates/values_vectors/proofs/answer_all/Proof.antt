@@ -15,8 +15,8 @@ abbrev μ-loop : tie.MeasureT-loop
 loop-holds : tie.Need-loop-holds Inv-loop μ-loop
 loop-holds c = search needs
 
-line-end-requires : tie.Need-line-end-requires Inv-loop μ-loop
-line-end-requires c κs = search needs
+seek-requires : tie.Need-seek-requires Inv-loop μ-loop
+seek-requires c κs = search needs
 
 sub-answer : tie.Need-sub-answer Inv-loop μ-loop
 sub-answer c = search needs
@@ -49,7 +49,7 @@ answer-all-spec =
     Inv-loop
     μ-loop
     loop-holds
-    line-end-requires
+    seek-requires
     sub-answer
     part-answer-start
     part-answer-end
