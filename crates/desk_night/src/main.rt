@@ -1,7 +1,8 @@
 // The desk over a lab's nights: the accident replayed, each number on both sides, the 95th and the
 // 96th ticket, the turn's full round, the clock's wrap. It writes an answer line for each call line
 // of tests/vectors/desk_night.calls. What it must write was not taken from this code: it is what
-// the model, which was written from the papers alone, answers to those lines.
+// the model, which was written from the papers alone, answers to those lines. The last lines are of
+// desks that no call made, as `strange` says.
 use libc::STDOUT_FILENO;
 use words::Words;
 use words::byte;
@@ -27,6 +28,53 @@ fn main() {
     all_open();
     // Each address is freed at once, and comes back only after all the others.
     dump(rounded(fresh()));
+    strange();
+}
+
+// Desks that no call made: a turn past the last place, and a ticket of a type that is no request,
+// with no time to wait. The model cannot make them, so their answers were worked out by hand from
+// the contracts: the turn counts round after 95 places, the ticket counts as a write's, and it is
+// due at once. The telegram's bytes are the model's.
+fn strange() {
+    let fresh = desk::fresh();
+    let none = fresh.tickets;
+    run(
+        desk::Desk {
+            turn: 200,
+            tickets: none,
+        },
+        b"open 1 15 4 48 - 1 0 12
+dump
+",
+    );
+    let mut odd = none;
+    odd[0] = desk::Ticket {
+        live: true,
+        job: 9,
+        unit: 15,
+        sort: 8,
+        register: 48,
+        wait: 0,
+        opened: 0,
+    };
+    run(
+        desk::Desk {
+            turn: 95,
+            tickets: odd,
+        },
+        b"reply 0da10f0330d3f30a 4
+dump
+",
+    );
+    run(
+        desk::Desk {
+            turn: 255,
+            tickets: odd,
+        },
+        b"expire 0
+open 1 15 4 48 - 1 0 7
+",
+    );
 }
 
 // The night of the accident: two jobs, one line. The replies come crossed, and each reading lands on

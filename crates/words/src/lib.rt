@@ -1,5 +1,5 @@
 // The words of a call line: parted by one blank, numbers in decimal, bytes in lower-case hex with
-// `-` for none. A part of the test tool `rehearsal`.
+// `-` for none. A part of the test tool `rehearsal`, and of test programs whose calls are lines.
 ghost use Rattle.io.specs.Counts.{Counts};
 ghost use mathlib.Core.Path.{_≡_};
 ghost use mathlib.Core.Bool.{true};
