@@ -14,6 +14,17 @@ const UNTOUCHED: u8 = 0xee;
 // The most that a number of 32 bits can be.
 const MOST: u64 = 4294967295;
 
+// A ticket that no opening makes: its type is no request's, and it has no time to wait.
+const ODD: desk::Ticket = desk::Ticket {
+    live: true,
+    job: 9,
+    unit: 15,
+    sort: 8,
+    register: 48,
+    wait: 0,
+    opened: 0,
+};
+
 fn main() {
     accident();
     who_asks();
@@ -31,8 +42,7 @@ fn main() {
     strange();
 }
 
-// Desks that no call made: a turn past the last place, and a ticket of a type that is no request,
-// with no time to wait. The model cannot make them, so their answers were worked out by hand from
+// Desks that no call made: a turn past the last place, and an odd ticket. The model cannot make them, so their answers were worked out by hand from
 // the contracts: the turn counts round after 95 places, the ticket counts as a write's, and it is
 // due at once. The telegram's bytes are the model's.
 fn strange() {
@@ -48,15 +58,7 @@ dump
 ",
     );
     let mut odd = none;
-    odd[0] = desk::Ticket {
-        live: true,
-        job: 9,
-        unit: 15,
-        sort: 8,
-        register: 48,
-        wait: 0,
-        opened: 0,
-    };
+    odd[0] = ODD;
     run(
         desk::Desk {
             turn: 95,
