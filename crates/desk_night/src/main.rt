@@ -42,9 +42,10 @@ fn main() {
     strange();
 }
 
-// Desks that no call made: a turn past the last place, and an odd ticket. The model cannot make them, so their answers were worked out by hand from
-// the contracts: the turn counts round after 95 places, the ticket counts as a write's, and it is
-// due at once. The telegram's bytes are the model's.
+// Desks that no call made: a turn past the last place, and an odd ticket. The model cannot make
+// them, so their answers were worked out by hand from the contracts: the turn counts round after 95
+// places, the ticket counts as a write's, and it is due at once. The telegram's bytes are the
+// model's.
 fn strange() {
     let fresh = desk::fresh();
     let none = fresh.tickets;
