@@ -3,7 +3,7 @@
 --
 -- No call has a precondition, and the toolchain proves of each that it ends, without a trap, with an outcome that its contract allows. Here,
 -- for each call that can refuse: the contract allows exactly one outcome, whatever the call was given (`..-settled`), and a refusal leaves
--- what there was (`..-keeps`). Calls that only read have nothing to leave. Two outcomes of every other call are equal by its layer's
+-- what there was (`..-keeps`, and the laws of the layers that are cited). Calls that only read have nothing to leave. Two outcomes of every other call are equal by its layer's
 -- `..-once`; docs/PROMISES.md has the list.
 -- Assumes nothing.
 use mathlib.Core.Path.{_≡_, refl, sym, ap₂, _∙_}
