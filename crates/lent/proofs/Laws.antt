@@ -1,6 +1,6 @@
 -- The laws of `over` and `overAt` that whoever lends or fills a buffer may cite.
 -- Assumes nothing.
-use mathlib.Core.Path.{_≡_, refl, sym, ap, _∙_}
+use mathlib.Core.Path.{_≡_, refl, ap}
 use mathlib.Core.List.{List, [], _∷_, _++_}
 use Prim.Native.Nat.{ℕ, zero, suc, _+_, _≤_, _<_}
 use native.Mathlib.Nat.{le-of-suc-le-suc, not-suc-le-zero, add-suc, suc-add}
@@ -8,6 +8,8 @@ use native.Mathlib.Numerals.{add-one}
 use native.Mathlib.Omega.{arith}
 use lib.ListN.{length, getD, take, drop, set}
 use lib.Seq.{drop-cons}
+use Rattle.rows.proofs.Settled.{settled}
+use Rattle.rows.specs.Settled.{Settled}
 use Rattle.lent.specs.Lent.{over, overAt, Lays}
 
 -- a walk along a list, one step on
@@ -76,5 +78,5 @@ unfolding overAt
 overAt-zero xs d = refl
 
 -- "Show that any two outcomes allowed by it are equal."
-pub lays-once : (bytes : List ℕ) (at : ℕ) (room : List ℕ) {a b : List ℕ} → Lays bytes at room a → Lays bytes at room b → a ≡ b
-lays-once bytes at room p q = p ∙ sym q
+pub lays-settled : (bytes : List ℕ) (at : ℕ) (room : List ℕ) → Settled (Lays bytes at room)
+lays-settled bytes at room = settled _

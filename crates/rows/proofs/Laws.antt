@@ -9,7 +9,7 @@ use Prim.Native.Nat.{ℕ, _≤_, _<_}
 use native.Mathlib.Omega.{arith}
 use borrow.Author.Tests.{ltb-true, ltb-false, leb-true, leb-false, eqb-true, eqb-false, not-true, not-false, eq-eqb, ne-eqb, lt-ltb, le-ltb, le-leb, lt-leb}
 use lib.Dec.{ltb, leb, eqb}
-use Rattle.rows.specs.Rows.{Row, First, NoRow, Ranked, Test, firstOf, orLater, passedUp, raised}
+use Rattle.rows.specs.Rows.{Row, First, NoRow, Ranked, Test, firstOf, orLater, passedUp, raised, numbersOf, apart, Numbered}
 
 -- ---- a test decides a condition
 
@@ -176,25 +176,21 @@ done-exactly {F} rs o p = (there o p, back o p)
     back none p q = refl
     back (some g) p q = absurd (first-some rs g p q)
 
--- ---- from a refusal to the answer that tells it
+-- ---- so of what a call told, by the paper's numbers: one line for each call
 
-module _ {F A : Type 0} (answer : Option F → A) (no : F → A) (gives : (f : F) → answer (some f) ≡ no f)
-    (same : (f g : F) → no f ≡ no g → f ≡ g) (differ : (f : F) → answer none ≡ no f → ⊥) where
-  told : (o : Option F) (f : F) → answer o ≡ no f → o ≡ some f
-  told none f e = absurd (differ f e)
-  told (some g) f e = ap some (same g f (sym (gives g) ∙ e))
-
-  clear : (o : Option F) → answer o ≡ answer none → o ≡ none
-  clear none e = refl
-  clear (some g) e = absurd (differ g (sym e ∙ gives g))
-
-  -- a number is told exactly where its row is the first that holds, and none exactly where no row does
-  pub told-exactly : (rs : List (Row F)) (o : Option F) → Ranked rs o
-      → ((f : F) → (answer o ≡ no f) ↔ First rs f) × ((answer o ≡ answer none) ↔ NoRow rs)
-  told-exactly rs o p = (
-    λ f. let exactly = refused-exactly rs o p f in (λ e. exactly .0 (told o f e), λ h. ap answer (exactly .1 h) ∙ gives f),
-    let exactly = done-exactly rs o p in (λ e. exactly .0 (clear o e), λ h. ap answer (exactly .1 h)),
-  )
+pub numbered : {F : Type 0} (number : F → ℕ) (rs : List (Row F)) (o : Option F) → Ranked rs o
+    → (numbers : List ℕ) → numbersOf (passedUp number rs) ≡ numbers → apart numbers ≡ true
+    → (told : Option ℕ) → told ≡ raised number o → Numbered (passedUp number rs) numbers told
+numbered number rs o p numbers in-order no-two told is =
+    record {
+      in-order = in-order;
+      no-two = no-two;
+      each = λ n. rw is (refused-exactly (passedUp number rs) (raised number o) up n);
+      done = rw is (done-exactly (passedUp number rs) (raised number o) up);
+    }
+  where
+    up : Ranked (passedUp number rs) (raised number o)
+    up = ranked-up number rs o p
 
 -- two constructors are never equal: from `cc`'s 0 ≡ 1 follows anything
 pub clash : {A : Type 0} → _≡_ {A = ℕ} 0 1 → A

@@ -2,10 +2,12 @@
 -- earlier one does." A call's rows are a list in the call's order; each condition stands in the paper's words, on its own.
 -- Assumes nothing.
 use mathlib.Core.Path.{_≡_}
-use mathlib.Core.Bool.{Bool, cond}
+use mathlib.Core.Bool.{Bool, true, false, cond, not, _||_, _&&_}
 use mathlib.Core.List.{List, [], _∷_}
-use mathlib.Core.Logic.{_⊎_}
+use mathlib.Core.Logic.{_⊎_, _↔_}
 use mathlib.Core.Option.{Option, some, none}
+use Prim.Native.Nat.{ℕ}
+use lib.Dec.{eqb}
 
 -- a row: its condition, and the refusal that is given where it is the first that holds
 pub record Row (F : Type 0) : Type 1 where
@@ -59,3 +61,28 @@ passedUp up (r ∷ rs) = row (r .holds) (up (r .gives)) ∷ passedUp up rs
 abbrev pub raised : {F G : Type 0} → (F → G) → Option F → Option G
 raised up (some f) = some (up f)
 raised up none = none
+
+-- ---- by the paper's numbers: `passedUp number rows` are the rows of a call with the number that each gives, and `raised number refusal` is
+-- the number of a refusal, or none
+
+-- the numbers that rows give, in their order
+abbrev pub numbersOf : List (Row ℕ) → List ℕ
+numbersOf [] = []
+numbersOf (r ∷ rs) = r .gives ∷ numbersOf rs
+
+abbrev pub stands : ℕ → List ℕ → Bool
+stands n [] = false
+stands n (m ∷ rest) = eqb n m || stands n rest
+
+-- no number stands twice
+abbrev pub apart : List ℕ → Bool
+apart [] = true
+apart (n ∷ rest) = not (stands n rest) && apart rest
+
+-- of what a call told, a number or none, when these are its rows: their numbers are this list, no two are equal, a number is told exactly when
+-- its row holds and no earlier one does, and none exactly when no row holds
+pub record Numbered (rs : List (Row ℕ)) (numbers : List ℕ) (told : Option ℕ) : Type 0 where
+  pub in-order : numbersOf rs ≡ numbers
+  pub no-two : apart numbers ≡ true
+  pub each : (n : ℕ) → (told ≡ some n) ↔ First rs n
+  pub done : (told ≡ none) ↔ NoRow rs

@@ -11,8 +11,10 @@ use borrow.Author.Tests.{lt-ltb, le-ltb}
 use lib.Dec.{ltb}
 use lib.ListN.{length, take, drop, set, length-append, length-drop, drop-of-length-le}
 use lib.Seq.{append-snoc, take-all}
+use Rattle.rows.proofs.Settled.{settled-with}
+use Rattle.rows.specs.Settled.{Settled}
 use Rattle.lent.specs.Lent.{overAt}
-use Rattle.text.specs.Text.{decimalBy, decimal, Spells}
+use Rattle.text.specs.Text.{ascii, decimalBy, decimal, Spells}
 
 -- ---- one digit
 
@@ -84,7 +86,13 @@ pub decimal-short : (n : ℕ) → length (decimal n) ≤ 20
 unfolding decimal
 decimal-short n = short-by 20 n
 
+-- ---- computed: no leading zero, and all digits of the greatest number of 64 bits
+
+pub spelt-so : (decimal 0 ≡ ascii "0") × (decimal 10305 ≡ ascii "10305") × (decimal 18446744073709551615 ≡ ascii "18446744073709551615")
+unfolding decimal decimalBy
+spelt-so = (refl, refl, refl)
+
 -- ---- 01: "Show that any two outcomes allowed by it are equal."
 
-pub spells-once : (n at : ℕ) (room : List ℕ) {a b : ℕ} {x y : List ℕ} → Spells n at room a x → Spells n at room b y → (a ≡ b) × (x ≡ y)
-spells-once n at room p q = (p .0 ∙ sym (q .0), p .1 ∙ sym (q .1))
+pub spells-settled : (n at : ℕ) (room : List ℕ) → Settled {A = ℕ × List ℕ} (λ o. Spells n at room (o .0) (o .1))
+spells-settled n at room = settled-with _ _

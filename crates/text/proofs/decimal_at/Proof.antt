@@ -28,7 +28,9 @@ same-length : tie.Need-same-length
 same-length c = search needs
 
 returns : tie.Need-returns
-returns c = spelt-laid _ _ _ _ _ _ (c .before .before .before .before .before .before .before .spell .ensures .1) (c .before .before .before .before .before .before .before .spell .ensures .2) (c .before .before .lay-at .ensures)
+returns c =
+    let spell = c .before .before .before .before .before .before .before .spell in
+    spelt-laid _ _ _ _ _ _ (spell .ensures .1) (spell .ensures .2) (c .before .before .lay-at .ensures)
 
 pub decimal-at-spec : {M : Type 1} → statement M
 decimal-at-spec =

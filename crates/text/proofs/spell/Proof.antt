@@ -31,7 +31,15 @@ loop-less : tie.Need-loop-less Inv-loop μ-loop
 loop-less c = search needs
 
 loop-again : tie.Need-loop-again Inv-loop μ-loop
-loop-again c = (search needs, search needs, rest-fits _ _ (more-left (c .before .before .loop .i) (c .before .before .loop .rest) (c .before .before .loop .inv .2) (c .before .loop-test .taken)) (c .before .before .loop .inv .2), spelt-more (c .before .before .loop .digits) _ (c .before .before .loop .i) _ _ _ (more-left (c .before .before .loop .i) (c .before .before .loop .rest) (c .before .before .loop .inv .2) (c .before .loop-test .taken)) (search needs) (c .before .loop-test .taken) (c .digit .ensures) refl (c .before .before .loop .inv .3))
+loop-again c =
+    let loop = c .before .before .loop in (
+      search needs,
+      search needs,
+      rest-fits _ _ (more-left (loop .i) (loop .rest) (loop .inv .2) (c .before .loop-test .taken)) (loop .inv .2),
+      spelt-more
+          (loop .digits) _ (loop .i) _ _ _ (more-left (loop .i) (loop .rest) (loop .inv .2) (c .before .loop-test .taken)) (search needs) (c .before .loop-test .taken)
+          (c .digit .ensures) refl (loop .inv .3),
+    )
 
 digit-requires-2 : tie.Need-digit-requires-2 Inv-loop μ-loop
 digit-requires-2 c κs = search needs
@@ -43,7 +51,13 @@ same-length : tie.Need-same-length Inv-loop μ-loop
 same-length c = search needs
 
 returns : tie.Need-returns Inv-loop μ-loop
-returns c = (search needs, simp length-set (c .before .before .loop .inv .1 ∙ c .before .before .before .before .pre), spelt-last (c .before .before .loop .digits) _ (c .before .before .loop .i) _ _ _ (search needs) (c .before .loop-test .left) (c .digit2 .ensures) refl (c .before .before .loop .inv .3))
+returns c =
+    let loop = c .before .before .loop in (
+      search needs,
+      simp length-set (loop .inv .1 ∙ c .before .before .before .before .pre),
+      spelt-last (loop .digits) _ (loop .i) _ _ _ (search needs)
+          (c .before .loop-test .left) (c .digit2 .ensures) refl (loop .inv .3),
+    )
 
 pub spell-spec : {M : Type 1} → statement M
 spell-spec =
