@@ -11,13 +11,20 @@ use lib.Bits.{bitXor, xor-shifted, xor-self}
 use lib.ListN.{length, getD, take, drop, take-append-drop, length-take, List·getD-eq-default}
 use lib.Pow.{pow-add, pow-mono}
 use lib.Seq.{getD-take, getD-drop}
-use Rattle.remainder.specs.Remainder.{_⊕_, bits, polynomial, Leaves, IsRemainder, timesXs, withByte, withBytes, remainderOf, timesX, combined, Burst, AlteredNearby, Remains}
+use Rattle.rows.proofs.Settled.{settled}
+use Rattle.rows.specs.Settled.{Settled}
+use Rattle.remainder.specs.Remainder.{_⊕_, bits, polynomial, timesDivisor, Leaves, IsRemainder, timesXs, withByte, withBytes, remainderOf, timesX, combined, Burst, AlteredNearby, Remains}
 use Rattle.remainder.proofs.Sum.{sum-zero, sum-shift}
 use Rattle.remainder.proofs.Division.{leaves-one, leaves-self, leaves-sum, leaves-timesXs, unshifts}
-use Rattle.remainder.proofs.Bytes.{Digits, polynomial-append, polynomial-lt, polynomial-none, polynomial-zeros, length-bits, digits-bits, number, number-cons, number-append, bits-combined, at-combined, number-combined}
+use Rattle.remainder.proofs.Bytes.{Digits, polynomial-append, polynomial-lt, polynomial-none, polynomial-zeros, length-bits}
+use Rattle.remainder.proofs.Bytes.{digits-bits, number, number-cons, number-append, bits-combined, at-combined, number-combined}
 
 -- ---- 01: "Remainder: the bits of all bytes before it, each byte highest bit first, as a polynomial times x^16, divided modulo 2 by
 -- x^16 + x^12 + x^5 + 1. It starts from 0, and the empty string has 0."
+
+pub divisor-is : timesDivisor 1 ≡ 2 ^ 16 + 2 ^ 12 + 2 ^ 5 + 1
+unfolding timesDivisor
+divisor-is = refl
 
 with-byte-leaves : (a b : ℕ) {s : ℕ} → Leaves (a * 2 ^ 16) s → Leaves ((a * 256 + b % 256) * 2 ^ 16) (withByte s b)
 unfolding withByte
@@ -62,7 +69,7 @@ empty-remainder = refl
 pub remainder-under : (xs : List ℕ) → remainderOf xs < 2 ^ 16
 remainder-under xs = is-remainder xs .under
 
--- ---- M 3: "The remainder of two equally long byte strings combined by exclusive or is the exclusive or of their remainders."
+-- ---- M 3: "the remainder of two equally long byte strings combined by exclusive or is the exclusive or of their remainders."
 
 pub remainder-linear : (xs ys : List ℕ) → length xs ≡ length ys → remainderOf (combined xs ys) ≡ remainderOf xs ⊕ remainderOf ys
 remainder-linear xs ys same =
@@ -238,5 +245,5 @@ nearby-seen {xs} {ys} a = altered-seen xs ys (a .same-length) (burst-seen (combi
 
 -- ---- 01: "Show that any two outcomes allowed by it are equal."
 
-pub remains-once : (xs : List ℕ) {r s : ℕ} → Remains xs r → Remains xs s → r ≡ s
-remains-once xs p q = p ∙ sym q
+pub remains-settled : (xs : List ℕ) → Settled (Remains xs)
+remains-settled xs = settled _

@@ -2,3 +2,4 @@ pub mod Sum
 pub mod Division
 pub mod Bytes
 pub mod Laws
+pub mod Nearby

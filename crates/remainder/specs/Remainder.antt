@@ -83,12 +83,26 @@ pub record Burst (cs : List ℕ) : Type 0 where
   pub from : ℕ
   pub near : (i : ℕ) → getD cs i 0 ≡ 1 → (from ≤ i) × (i < from + 16)
 
+-- the bits at a place differ
+abbrev pub DifferAt : List ℕ → List ℕ → ℕ → Type 0
+DifferAt xs ys i = getD (bits xs) i 0 ≢ getD (bits ys) i 0
+
 -- ys is xs with one or more bits altered, all within 16 neighbouring bits, each byte taken highest bit first
 pub record AlteredNearby (xs ys : List ℕ) : Type 0 where
   pub same-length : length xs ≡ length ys
-  pub some-bit : (i : ℕ) × (getD (bits xs) i 0 ≢ getD (bits ys) i 0)
+  pub some-bit : (i : ℕ) × DifferAt xs ys i
   pub from : ℕ
-  pub near : (i : ℕ) → getD (bits xs) i 0 ≢ getD (bits ys) i 0 → (from ≤ i) × (i < from + 16)
+  pub near : (i : ℕ) → DifferAt xs ys i → (from ≤ i) × (i < from + 16)
+
+-- the same by the first and the last bit that differ: they are less than 16 places apart
+pub record FirstToLast (xs ys : List ℕ) : Type 0 where
+  pub same-length : length xs ≡ length ys
+  pub first : ℕ
+  pub last : ℕ
+  pub first-differs : DifferAt xs ys first
+  pub last-differs : DifferAt xs ys last
+  pub between : (i : ℕ) → DifferAt xs ys i → (first ≤ i) × (i ≤ last)
+  pub apart : last < first + 16
 
 -- ---- the contract
 
