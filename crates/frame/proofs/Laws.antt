@@ -1,16 +1,28 @@
 -- The laws of substitution and of frames.
 -- Assumes nothing.
-use mathlib.Core.Path.{_≡_, ap, sym, _∙_}
-use mathlib.Core.Logic.{_⊎_, ⊎-elim}
+use mathlib.Core.Path.{_≡_, refl, ap}
+use mathlib.Core.Logic.{_⊎_, ⊎-elim, _↔_}
 use mathlib.Core.Bool.{Bool, true, false, cond}
 use mathlib.Core.List.{List, [], _∷_, _++_}
-use Prim.Native.Nat.{ℕ, _+_, _≤_, _<_}
+use Prim.Native.Nat.{ℕ, zero, suc, _+_, _≤_, _<_}
 use native.Mathlib.Omega.{arith}
 use lib.Dec.{eqb}
 use lib.ListN.{length, getD, drop, length-append}
+use Rattle.rows.proofs.Settled.{settled, settled-with}
+use Rattle.rows.specs.Settled.{Settled}
 use Rattle.lent.proofs.Laws.{drop-next}
 use Rattle.rows.proofs.Laws.{Decides, decides-eq, decides-or}
-use Rattle.frame.specs.Frame.{isSpecial, substitute, substituted, framed, restore, opens, restored, Measures, Substitutes, Restores}
+use Rattle.frame.specs.Frame.{AllBytes, isSpecial, substitute, substituted, framed, restore, opens, restored, Measures, Substitutes, Restores}
+
+-- ---- bytes, by their places
+
+pub all-bytes : (xs : List ℕ) → AllBytes xs ↔ ((i : ℕ) → getD xs i 0 < 256)
+all-bytes [] = (λ p i. omega arith, λ p. tt)
+all-bytes (x ∷ xs) = (at (all-bytes xs .0), λ p. (p 0, all-bytes xs .1 (λ i. p (suc i))))
+  where
+    at : (AllBytes xs → (i : ℕ) → getD xs i 0 < 256) → AllBytes (x ∷ xs) → (i : ℕ) → getD (x ∷ xs) i 0 < 256
+    at later p zero = p .0
+    at later p (suc i) = later (p .1) i
 
 -- ---- one byte
 
@@ -19,6 +31,11 @@ decides-special b = decides-or (decides-eq b 10) (decides-or (decides-eq b 13) (
 
 pub special-under : (b : ℕ) → isSpecial b ≡ true → b ≤ 94
 special-under b e = ⊎-elim (λ p. omega arith) (⊎-elim (λ p. omega arith) (λ p. omega arith)) (decides-special b .so e)
+
+-- computed: the start byte, each of the three as 94 and the byte plus 64, another byte as it is, and the end byte
+pub three-sent : framed (10 ∷ 13 ∷ 94 ∷ 7 ∷ []) ≡ 13 ∷ 94 ∷ 74 ∷ 94 ∷ 77 ∷ 94 ∷ 158 ∷ 7 ∷ 10 ∷ []
+unfolding framed substituted
+three-sent = refl
 
 -- ---- a walk along the bytes, one step on
 
@@ -60,11 +77,11 @@ length-framed m = let e : length (substituted m ++ (10 ∷ [])) ≡ length (subs
 
 -- ---- 01: "Show that any two outcomes allowed by it are equal."
 
-pub measures-once : (m : List ℕ) {a b : ℕ} → Measures m a → Measures m b → a ≡ b
-measures-once m p q = p ∙ sym q
+pub measures-settled : (m : List ℕ) → Settled (Measures m)
+measures-settled m = settled _
 
-pub substitutes-once : (m : List ℕ) (at : ℕ) (room : List ℕ) {x y : List ℕ} → Substitutes m at room x → Substitutes m at room y → x ≡ y
-substitutes-once m at room p q = p ∙ sym q
+pub substitutes-settled : (m : List ℕ) (at : ℕ) (room : List ℕ) → Settled (Substitutes m at room)
+substitutes-settled m at room = settled _
 
-pub restores-once : (xs room : List ℕ) {a b : ℕ} {x y : List ℕ} → Restores xs room a x → Restores xs room b y → (a ≡ b) × (x ≡ y)
-restores-once xs room p q = (p .0 ∙ sym (q .0), p .1 ∙ sym (q .1))
+pub restores-settled : (xs room : List ℕ) → Settled {A = ℕ × List ℕ} (λ o. Restores xs room (o .0) (o .1))
+restores-settled xs room = settled-with _ _

@@ -97,7 +97,7 @@ fn restore_one(after: bool, byte: u8, room: &mut [u8], at: usize) -> usize
 fn opens_pair(after: bool, byte: u8) -> bool
     ensures { λ r. ⌜ r ≡ opens after byte ⌝ }
 {
-    if after { false } else { byte == SUBSTITUTION }
+    !after && byte == SUBSTITUTION
 }
 
 // A byte under 64 is no substitute; it counts as 64.
@@ -110,11 +110,8 @@ fn less_64(byte: u8) -> u8
 fn special(byte: u8) -> bool
     ensures { λ r. ⌜ r ≡ isSpecial byte ⌝ }
 {
-    if byte == END {
-        return true;
+    match byte {
+        END | START | SUBSTITUTION => true,
+        _ => false,
     }
-    if byte == START {
-        return true;
-    }
-    byte == SUBSTITUTION
 }

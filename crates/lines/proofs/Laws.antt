@@ -2,15 +2,18 @@
 -- Assumes nothing.
 
 -- ---- how much room a line takes, for whoever lends it
-use mathlib.Core.Path.{_≡_, sym, _∙_}
+use mathlib.Core.Path.{_≡_, refl}
 use mathlib.Core.Bool.{Bool, true, false, cond}
 use mathlib.Core.List.{List, [], _++_}
 use Prim.Native.Nat.{ℕ, _+_, _≤_}
 use native.Mathlib.Omega.{arith}
 use lib.ListN.{length, length-append}
+use Rattle.rows.proofs.Settled.{settled-with}
+use Rattle.rows.specs.Settled.{Settled}
 use Rattle.lent.proofs.Laws.{length-over}
 use Rattle.telegram.specs.Read.{faultNumber}
 use Rattle.text.proofs.Laws.{decimal-short}
+use Rattle.text.specs.Text.{ascii, newline, decimal, decimalBy}
 use Rattle.lines.specs.Lines.{headerText, longerText, eventText, lineText, totalsText, endingText, Writes}
 use Rattle.lines.specs.declared.Event.{Event}
 use Rattle.lines.specs.declared.Event.the-variants.{Read, Refused, Dropped, Open}
@@ -54,5 +57,19 @@ writes-within text room r most room′ w short fits = rw (w .1, length-over text
 
 -- ---- 01: "Show that any two outcomes allowed by it are equal."
 
-pub writes-once : (text room : List ℕ) {a b : ℕ} {x y : List ℕ} → Writes text room a x → Writes text room b y → (a ≡ b) × (x ≡ y)
-writes-once text room p q = (p .0 ∙ sym (q .0), p .1 ∙ sym (q .1))
+pub writes-settled : (text room : List ℕ) → Settled {A = ℕ × List ℕ} (λ o. Writes text room (o .0) (o .1))
+writes-settled text room = settled-with _ _
+
+-- ---- computed: every word, and every number in its place
+
+pub read-line : lineText 12 (Read (record { destination = 1; source = 2; sort = 3; register = 4; size = 5 })) ≡ ascii "at 12 ok 1 2 3 4 5" ++ newline
+unfolding lineText decimal decimalBy
+read-line = refl
+
+pub dropped-line : lineText 7 Dropped ≡ ascii "at 7 dropped" ++ newline
+unfolding lineText decimal decimalBy
+dropped-line = refl
+
+pub totals-line : totalsText 1 2 3 ≡ ascii "ok 1 refused 2 dropped 3" ++ newline
+unfolding totalsText decimal decimalBy
+totals-line = refl

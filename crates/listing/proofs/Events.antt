@@ -17,14 +17,11 @@ use Rattle.lines.specs.declared.Event.{Event}
 use Rattle.lines.specs.declared.Event.the-variants.{Read, Refused, Dropped, Open}
 use Rattle.lines.specs.Lines.{lineText}
 use Rattle.listing.specs.declared.Scan.{Scan}
-use Rattle.listing.specs.Events.{Placed, readEvent, toNextEnd, eventOf, eventsFrom, total, isOk, isRefused, isDropped, isOpen}
+use Rattle.listing.specs.Events.{Placed, placed, readEvent, toNextEnd, eventOf, eventsFrom, total, isOk, isRefused, isDropped, isOpen}
 use Rattle.listing.specs.Step.{here, frameHere, readHere, counted, afterEvent, passing, stepScan, stepText, scanAfter, textAfter}
 use Rattle.listing.specs.Listing.{linesText}
 
 -- ---- lists of events joined
-
-abbrev pub placed : ℕ → Event → Placed
-placed place event = record { place = place; event = event }
 
 pub lines-append : (a b : List Placed) → linesText (a ++ b) ≡ linesText a ++ linesText b
 unfolding linesText

@@ -11,6 +11,8 @@ use native.Mathlib.Omega.{arith}
 use borrow.Author.Tests.{le-ltb, lt-ltb, eq-eqb, ne-eqb, eqb-true, leb-true}
 use lib.Dec.{eqb, leb}
 use lib.ListN.{length, getD, drop, take}
+use Rattle.rows.proofs.Settled.{settled, settled-parts}
+use Rattle.rows.specs.Settled.{Settled}
 use Rattle.telegram.specs.Read.{readFrame}
 use Rattle.telegram.specs.declared.Reading.{Reading}
 use Rattle.lines.specs.declared.Event.{Event}
@@ -19,10 +21,11 @@ use Rattle.lines.proofs.Laws.{line-short}
 use Rattle.lines.specs.Lines.{headerText, longerText, lineText, endingText}
 use Rattle.listing.specs.declared.Scan.{Scan}
 use Rattle.listing.specs.declared.Stepped.{Stepped}
-use Rattle.listing.specs.Events.{Placed, readEvent, toNextEnd, eventOf, eventsFrom, eventsOf, total, isOk, isRefused, isDropped, isOpen}
-use Rattle.listing.specs.Step.{startScan, here, stepText, scanAfter, textAfter, endText, Starts, Steps, readHere}
-use Rattle.listing.proofs.Events.{events-none, placed, Good, Whole, whole, endPlaced, one-kind, lines-append, total-append}
+use Rattle.listing.specs.Events.{Placed, placed, readEvent, toNextEnd, eventOf, eventsFrom, eventsOf, total, isOk, isRefused, isDropped, isOpen}
+use Rattle.listing.specs.Step.{startScan, here, stepText, textAfter, lastScan, endText, Starts, Steps, readHere}
+use Rattle.listing.proofs.Events.{events-none, Good, Whole, whole, endPlaced, one-kind, lines-append, total-append}
 use Rattle.listing.specs.Listing.{linesText, listingText}
+use Rattle.listing.specs.Places.{In, RisingFrom, Of13, thirteens}
 use Rattle.telegram.specs.declared.Reading.the-variants as reading
 
 -- ---- 01: "it writes exactly this": the header, the steps' texts from the start over all places, and the end's text
@@ -48,10 +51,6 @@ no-total counts = refl
 one-total : (counts : Event → ℕ) (e : Placed) → total counts (e ∷ []) ≡ counts (e .event)
 unfolding total
 one-total counts e = add-zero (counts (e .event))
-
--- the scan after the last byte
-abbrev pub lastScan : List ℕ → Scan
-lastScan capture = scanAfter (length capture) startScan capture
 
 module _ (capture : List ℕ) (fits : length capture < 2 ^ 64) where
   events-told : all-steps capture fits .told ++ endPlaced (lastScan capture) ≡ eventsOf capture
@@ -110,19 +109,7 @@ pub listed-longer : (capture : List ℕ) → 65536 < length capture → headerTe
 unfolding listingText
 listed-longer capture h = rw (lt-ltb 65536 (length capture) h) refl
 
--- ---- "every frame of the capture has exactly one line, in order of its place": the events are those of the 13s, at rising places
-
-abbrev pub In : Placed → List Placed → Type 0
-In e [] = ⊥
-In e (x ∷ rest) = (e ≡ x) ⊎ In e rest
-
-abbrev pub RisingFrom : ℕ → List Placed → Type 0
-RisingFrom n [] = Unit {0}
-RisingFrom n (e ∷ rest) = (n ≤ e .place) × RisingFrom (suc (e .place)) rest
-
--- a line stands for a 13, and for the event that the bytes after it decide
-abbrev pub Of13 : List ℕ → ℕ → Placed → Type 0
-Of13 xs from e = (i : ℕ) × (e .place ≡ from + i) × (i < length xs) × (getD xs i 0 ≡ 13) × (e .event ≡ eventOf (drop (i + 1) xs))
+-- ---- each frame of the capture has one line, in order of its place: the events are those of the 13s, at rising places
 
 rising-later : (es : List Placed) (n : ℕ) → RisingFrom (suc n) es → RisingFrom n es
 rising-later [] n r = tt
@@ -194,11 +181,7 @@ passed-over scan capture o n = rw (o, ne-eqb (here scan capture) 13 n) (go (leb 
     go true = refl
     go false = refl
 
--- ---- "ok + refused + dropped + (1 if one is open) is the number of 13s"
-
-unfoldable pub thirteens : List ℕ → ℕ
-thirteens [] = 0
-thirteens (b ∷ rest) = cond (eqb b 13) 1 0 + thirteens rest
+-- ---- ok, refused and dropped, and 1 where one is open, are together the number of 13s
 
 kinds-are : (es : List Placed) → total isOk es + (total isRefused es + (total isDropped es + total isOpen es)) ≡ length es
 unfolding total
@@ -232,7 +215,8 @@ none-after : (xs : List ℕ) (from : ℕ) → length xs ≤ toNextEnd xs → eve
 none-after [] from h = events-none from
 none-after (b ∷ xs) from h = go (eqb b 10) (eqb b 13) refl refl (none-after xs (suc from)) (rw (to-next b xs) at h)
   where
-    go : (s t : Bool) → eqb b 10 ≡ s → eqb b 13 ≡ t → (length xs ≤ toNextEnd xs → eventsFrom (suc from) xs ≡ []) → suc (length xs) ≤ cond (eqb b 10 || eqb b 13) 0 (suc (toNextEnd xs)) → eventsFrom from (b ∷ xs) ≡ []
+    go : (s t : Bool) → eqb b 10 ≡ s → eqb b 13 ≡ t → (length xs ≤ toNextEnd xs → eventsFrom (suc from) xs ≡ [])
+        → suc (length xs) ≤ cond (eqb b 10 || eqb b 13) 0 (suc (toNextEnd xs)) → eventsFrom from (b ∷ xs) ≡ []
     go true t p q ih h = absurd (not-suc-le-zero (rw p at h))
     go false true p q ih h = absurd (not-suc-le-zero (rw (p, q) at h))
     go false false p q ih h = events-cons from b xs ∙ rw q (ih (le-of-suc-le-suc (rw (p, q) at h)))
@@ -250,7 +234,9 @@ open-is rest = go (leb (length rest) (toNextEnd rest)) (eqb (getD rest (toNextEn
 
 open-from : (xs : List ℕ) (from : ℕ) → total isOpen (eventsFrom from xs) ≤ 1
 open-from [] from = rw (events-none from, no-total isOpen) (omega arith)
-open-from (b ∷ xs) from = rw (events-cons from b xs, total-append isOpen (cond (eqb b 13) (placed from (eventOf xs) ∷ []) []) (eventsFrom (suc from) xs)) (go (eqb b 13) (open-from xs (suc from)) (open-is xs))
+open-from (b ∷ xs) from =
+    rw (events-cons from b xs, total-append isOpen (cond (eqb b 13) (placed from (eventOf xs) ∷ []) []) (eventsFrom (suc from) xs))
+    (go (eqb b 13) (open-from xs (suc from)) (open-is xs))
   where
     go : (t : Bool) → total isOpen (eventsFrom (suc from) xs) ≤ 1 → (isOpen (eventOf xs) ≡ 0) ⊎ ((isOpen (eventOf xs) ≡ 1) × (length xs ≤ toNextEnd xs))
         → total isOpen (cond t (placed from (eventOf xs) ∷ []) []) + total isOpen (eventsFrom (suc from) xs) ≤ 1
@@ -278,11 +264,8 @@ step-short scan capture = go (leb (length capture) (scan .place)) (eqb (here sca
 
 -- ---- 01: "Show that any two outcomes allowed by it are equal." Those of the calls that write text alone are in the laws of `lines`.
 
-pub starts-once : {a b : Scan} → Starts a → Starts b → a ≡ b
-starts-once p q = p ∙ sym q
+pub starts-settled : Settled Starts
+starts-settled = settled _
 
-pub steps-once : (scan : Scan) (capture room : List ℕ) (a b : Stepped) {x y : List ℕ} → Steps scan capture room a x → Steps scan capture room b y → (a ≡ b) × (x ≡ y)
-steps-once scan capture room a b p q = (same (p .0 ∙ sym (q .0)) (p .1 ∙ sym (q .1)), p .2 ∙ sym (q .2))
-  where
-    same : a .scan ≡ b .scan → a .size ≡ b .size → a ≡ b
-    same s n = ap₂ (λ (t : Scan) (k : ℕ). record { scan = t; size = k }) s n
+pub steps-settled : (scan : Scan) (capture room : List ℕ) → Settled {A = Stepped × List ℕ} (λ o. Steps scan capture room (o .0) (o .1))
+steps-settled scan capture room = settled-parts (λ (a : Scan) (b : ℕ). record { scan = a; size = b }) (λ r. r .scan) (λ r. r .size) (λ r. refl) (λ a b. (refl, refl)) _ _ _

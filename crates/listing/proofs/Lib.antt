@@ -2,3 +2,4 @@ pub mod Looking
 pub mod Events
 pub mod Laws
 pub mod Sample
+pub mod Numbers

@@ -33,10 +33,13 @@ pub record Placed : Type 0 where
   pub place : ℕ
   pub event : Event
 
+abbrev pub placed : ℕ → Event → Placed
+placed place event = record { place = place; event = event }
+
 -- the events of these bytes, the first of which stands at a place, in order of their places
 unfoldable pub eventsFrom : ℕ → List ℕ → List Placed
 eventsFrom place [] = []
-eventsFrom place (b ∷ rest) = cond (eqb b 13) (record { place = place; event = eventOf rest } ∷ []) [] ++ eventsFrom (suc place) rest
+eventsFrom place (b ∷ rest) = cond (eqb b 13) (placed place (eventOf rest) ∷ []) [] ++ eventsFrom (suc place) rest
 
 unfoldable pub eventsOf : List ℕ → List Placed
 eventsOf capture = eventsFrom 0 capture

@@ -1,3 +1,4 @@
 pub mod Events
 pub mod Listing
+pub mod Places
 pub mod Step

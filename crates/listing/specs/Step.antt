@@ -82,6 +82,10 @@ unfoldable pub textAfter : ℕ → Scan → List ℕ → List ℕ
 textAfter zero scan capture = []
 textAfter (suc n) scan capture = stepText scan capture ++ textAfter n (stepScan scan capture) capture
 
+-- the scan after the capture's last byte
+abbrev pub lastScan : List ℕ → Scan
+lastScan capture = scanAfter (length capture) startScan capture
+
 -- ---- the contracts
 
 abbrev pub Starts : Scan → Type 0

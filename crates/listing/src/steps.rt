@@ -6,6 +6,7 @@ use frame::START;
 use lines::Event;
 use lines::line;
 use std::num::wrapping_add_u64;
+use telegram::MOST_DATA;
 ghost use Rattle.listing.specs.Events.{readEvent, isOk, isRefused, isDropped};
 ghost use Rattle.lines.specs.Lines.{Writes};
 ghost use Rattle.listing.specs.Step.{Starts, Steps, Tells, Opens, endText, afterEvent, passing, readHere};
@@ -69,7 +70,7 @@ pub fn finish(scan: Scan, room: &mut [u8]) -> usize
 fn closes(inside: bool, byte: u8) -> bool
     ensures { λ r. ⌜ r ≡ (inside && eqb byte 10) ⌝ }
 {
-    if inside { byte == END } else { false }
+    inside && byte == END
 }
 
 // A 13 opens a frame, and drops the one that is open.
@@ -135,9 +136,9 @@ fn read_here(scan: Scan, capture: &[u8]) -> Event
     let from = scan.start as usize;
     let to = scan.place as usize + 1;
     if from <= to {
-        return event_of(telegram::examine(&capture[from..to], 240));
+        return event_of(telegram::examine(&capture[from..to], MOST_DATA));
     }
-    event_of(telegram::examine(&capture[0..0], 240))
+    event_of(telegram::examine(&capture[0..0], MOST_DATA))
 }
 
 fn event_of(reading: telegram::Reading) -> Event

@@ -1,10 +1,10 @@
 -- What the groups of tests tell, and how the reader's answer is put together from them.
 -- Assumes nothing.
-use mathlib.Core.Path.{_≡_, refl, ap}
+use mathlib.Core.Path.{_≡_, refl, sym, ap, _∙_}
 use mathlib.Core.Bool.{Bool, true, false, not, _||_, true≢false}
 use mathlib.Core.List.{List}
 use mathlib.Core.Option.{Option, some, none}
-use mathlib.Core.Logic.{_≢_}
+use mathlib.Core.Logic.{_≢_, inl, inr}
 use Prim.Native.Nat.{ℕ, _-_, _≤_, _+_}
 use native.Mathlib.Omega.{arith}
 use native.Mathlib.Nat.{sub-zero}
@@ -13,18 +13,18 @@ use lib.Dec.{eqb, ltb}
 use lib.ListN.{length, take, drop, length-drop}
 use lib.Seq.{take-append-le, drop-append-le}
 use Rattle.rows.specs.Rows.{firstOf}
-use Rattle.rows.proofs.Laws.{or-none}
+use Rattle.rows.proofs.Laws.{or-none, decides-eq, decides-or}
 use Rattle.lent.proofs.Laws.{over-is, take-over}
 use Rattle.lent.specs.Lent.{over}
 use Rattle.remainder.specs.Remainder.{remainderOf}
 use Rattle.frame.specs.Frame.{between, restored, messageOf}
 use Rattle.telegram.specs.declared.Fault.{Fault}
-use Rattle.telegram.specs.declared.Fault.the-variants.{NotFramed, ShortMessage, LongMessage, NoRoom, CheckFault}
+use Rattle.telegram.specs.declared.Fault.the-variants.{NotFramed, ShortMessage, LongMessage, NoRoom, CheckFault, ZeroAddress, UnknownType}
 use Rattle.telegram.specs.declared.Judged.the-variants.{Sound, Unsound}
 use Rattle.telegram.specs.declared.Fields.{Fields}
 use Rattle.telegram.specs.declared.Reading.{Reading}
 use Rattle.telegram.specs.declared.Reading.the-variants.{Telegram, Refused}
-use Rattle.telegram.specs.Read.{byte, notFramed, frameTests, lengthTests, messageTests, judged, readRefusal, fieldsOf, readAnswer, readFrame, messageRefusal, dataOf}
+use Rattle.telegram.specs.Read.{byte, notFramed, frameTests, lengthTests, messageTests, judged, readRefusal, fieldsOf, readAnswer, readFrame, messageRefusal, dataOf, fieldsIn}
 -- both are of the rows, and whoever judges telegrams wants them too
 pub use Rattle.rows.proofs.Laws.{first-false, never-both}
 
@@ -38,12 +38,33 @@ pub judged-unsound : (o : Option Fault) (f : Fault) → Unsound f ≡ judged o �
 judged-unsound none f e = cc
 judged-unsound (some g) f e = cc
 
-pub framed-two : (frame : List ℕ) → notFramed frame ≡ false → 2 ≤ length frame
-framed-two frame e = go (ltb (length frame) 2) refl e
+pub or-two : (n : ℕ) (rest : Bool) → (ltb n 2 || rest) ≡ false → 2 ≤ n
+or-two n rest e = go (ltb n 2) refl e
   where
-    go : (t : Bool) → ltb (length frame) 2 ≡ t → (t || (not (eqb (byte frame 0) 13) || not (eqb (byte frame (length frame - 1)) 10))) ≡ false → 2 ≤ length frame
+    go : (t : Bool) → ltb n 2 ≡ t → (t || rest) ≡ false → 2 ≤ n
     go true p q = absurd (true≢false q)
-    go false p q = ltb-false (length frame) 2 p
+    go false p q = ltb-false n 2 p
+
+pub framed-two : (frame : List ℕ) → notFramed frame ≡ false → 2 ≤ length frame
+framed-two frame e = or-two (length frame) _ e
+
+-- the frame's first two tests told by a flag
+module _ (frame : List ℕ) (flag : Bool) (told : flag ≡ (ltb (length frame) 2 || not (eqb (byte frame 0) 13))) where
+  pub flag-true : flag ≡ true → flag ≡ notFramed frame
+  flag-true t = go (ltb (length frame) 2) (not (eqb (byte frame 0) 13)) told
+    where
+      go : (a b : Bool) → flag ≡ (a || b) → flag ≡ (a || (b || not (eqb (byte frame (length frame - 1)) 10)))
+      go true b e = e
+      go false true e = e
+      go false false e = absurd (true≢false (sym t ∙ e))
+
+  pub flag-false : flag ≡ false → not (eqb (byte frame (length frame - 1)) 10) ≡ notFramed frame
+  flag-false t = go (ltb (length frame) 2) (not (eqb (byte frame 0) 13)) told
+    where
+      go : (a b : Bool) → flag ≡ (a || b) → not (eqb (byte frame (length frame - 1)) 10) ≡ (a || (b || not (eqb (byte frame (length frame - 1)) 10)))
+      go true b e = absurd (true≢false (sym e ∙ t))
+      go false true e = absurd (true≢false (sym e ∙ t))
+      go false false e = refl
 
 pub sound-two : (frame : List ℕ) → firstOf (frameTests frame) ≡ none → 2 ≤ length frame
 sound-two frame e = framed-two frame (first-false (notFramed frame) NotFramed _ e .0)
@@ -100,12 +121,12 @@ answer-telegram (some g) t u e = absurd (let z : _≡_ {A = ℕ} 0 1 = cc in ome
 
 pub reading-refused : (frame : List ℕ) (room : ℕ) (f : Fault) → readFrame frame room ≡ Refused f → readRefusal frame room ≡ some f
 unfolding readFrame
-reading-refused frame room f e = answer-refused (readRefusal frame room) (fieldsOf (messageOf frame)) f e
+reading-refused frame room f e = answer-refused (readRefusal frame room) (fieldsIn frame) f e
 
 pub reading-telegram : (frame : List ℕ) (room : ℕ) (t : Fields) → readFrame frame room ≡ Telegram t
-    → (readRefusal frame room ≡ none) × (t ≡ fieldsOf (messageOf frame))
+    → (readRefusal frame room ≡ none) × (t ≡ fieldsIn frame)
 unfolding readFrame
-reading-telegram frame room t e = answer-telegram (readRefusal frame room) (fieldsOf (messageOf frame)) t e
+reading-telegram frame room t e = answer-telegram (readRefusal frame room) (fieldsIn frame) t e
 
 -- an accepted frame has passed each group
 pub accepted-groups : (frame : List ℕ) (room : ℕ) → readRefusal frame room ≡ none
@@ -153,7 +174,14 @@ pub message-wrong : (m : List ℕ) (room : ℕ) → 6 ≤ length m → length m 
 unfolding messageRefusal
 message-wrong m room lo hi h r = rw (sized-passes (length m) room lo hi h) (simp (ne-eqb (remainderOf m) 0 r))
 
-pub accepted-remainder : (frame : List ℕ) (room : ℕ) → readRefusal frame room ≡ none → remainderOf (messageOf frame) ≡ 0
-accepted-remainder frame room e =
-    let m = first-false (not (eqb (remainderOf (messageOf frame)) 0)) CheckFault _ (accepted-groups frame room e .2) in
-    eqb-true _ _ (not-false _ (m .0))
+-- an accepted message has a right remainder, no address 0 and a type up to 9
+pub accepted-message : (frame : List ℕ) (room : ℕ) → readRefusal frame room ≡ none
+    → (remainderOf (messageOf frame) ≡ 0)
+    × (byte (messageOf frame) 0 ≢ 0) × (byte (messageOf frame) 1 ≢ 0) × (byte (messageOf frame) 2 ≤ 9)
+accepted-message frame room e =
+    let m : List ℕ = messageOf frame in
+    let check = first-false (not (eqb (remainderOf m) 0)) CheckFault _ (accepted-groups frame room e .2) in
+    let address = first-false (eqb (byte m 0) 0 || eqb (byte m 1) 0) ZeroAddress _ (check .1) in
+    let sort = first-false (ltb 9 (byte m 2)) UnknownType _ (address .1) in
+    let no-zero = decides-or (decides-eq (byte m 0) 0) (decides-eq (byte m 1) 0) .not-so (address .0) in
+    (eqb-true _ _ (not-false _ (check .0)), λ z. no-zero (inl z), λ z. no-zero (inr z), ltb-false _ _ (sort .0))

@@ -3,23 +3,28 @@
 use mathlib.Core.Path.{_≡_, sym, ap, _∙_, refl, subst}
 use mathlib.Core.Bool.{true, false, true≢false, Bool}
 use mathlib.Core.List.{List, [], _∷_, _++_}
-use mathlib.Core.Logic.{_⊎_, inl, inr, ⊎-elim, _↔_}
-use mathlib.Core.Option.{Option}
-use Prim.Native.Nat.{ℕ, zero, suc, _+_, _-_, _<_}
+use mathlib.Core.Logic.{_⊎_, inl, inr, ⊎-elim}
+use mathlib.Core.Option.{Option, some, none}
+use Prim.Native.Nat.{ℕ, zero, suc, _+_, _-_, _≤_, _<_}
 use native.Mathlib.Omega.{arith}
 use native.Mathlib.Numerals.{add-one}
 use lib.ListN.{length, length-append, List·getD-append}
-use Rattle.rows.proofs.Laws.{Decides, decides-lt, decides-eq, decides-not, decides-or, told-false, decides-as, Fit, ranked, _otherwise_, first-append, told-exactly, clash}
+use Rattle.rows.proofs.Laws.{Decides, decides-lt, decides-eq, decides-not, decides-or, told-false, decides-as, Fit, ranked, _otherwise_, first-append, numbered, refused-exactly}
 use Rattle.remainder.specs.Remainder.{remainderOf}
-use Rattle.rows.specs.Rows.{row, Ranked, firstOf, First, NoRow}
+use Rattle.rows.specs.Rows.{row, Ranked, firstOf, passedUp, raised, stands, Numbered}
 use Rattle.frame.specs.Frame.{between, framed, messageOf}
 use Rattle.telegram.proofs.Sound.{frame-parts, Ends, ends-told, stray-found, stray-at, messageOf-framed, sound-framed, Other, bad-found, bad-at}
-use Rattle.telegram.specs.Read.{byte, Between, IsNotFramed, HasStrayEnd, notFramed, hasStrayEnd, HasBadSubstitution, OfMessage, IsShort, IsLong, OverRoom, IsWrong, HasZeroAddress, HasUnknownType, readRows, hasBadSubstitution, frameTests, lengthTests, messageTests, messageRefusal, readRefusal, fieldsOf, readAnswer, readFrame}
+use Rattle.telegram.specs.Read.{byte, Between, IsNotFramed, HasStrayEnd, notFramed, hasStrayEnd, HasBadSubstitution, OfMessage}
+use Rattle.telegram.specs.Read.{IsShort, IsLong, OverRoom, IsWrong, HasZeroAddress, HasUnknownType, readRows, hasBadSubstitution}
+use Rattle.telegram.specs.Read.{frameTests, lengthTests, messageTests, messageRefusal, readRefusal, readAnswer, readFrame, fieldsIn}
+use Rattle.telegram.specs.Read.{faultNumber, readTold, Reads, Judges}
 use Rattle.telegram.specs.Write.{telegramFor, IsTooMuch, IsZeroAddress, IsUnknownType, IsOverRoom, writeRows, writeRefusal, writeTests, writeAnswer}
+use Rattle.telegram.specs.Write.{writeTold, Writes}
 use Rattle.telegram.specs.declared.Fault.the-variants.{ShortMessage, LongMessage, NoRoom, CheckFault, ZeroAddress, UnknownType}
 use Rattle.telegram.specs.declared.Fault.{Fault}
-use Rattle.telegram.specs.declared.Reading.the-variants as reading
-use Rattle.telegram.specs.declared.Writing.the-variants as writing
+use Rattle.telegram.specs.declared.Fields.{Fields}
+use Rattle.telegram.specs.declared.Reading.{Reading}
+use Rattle.telegram.specs.declared.Writing.{Writing}
 
 -- ---- 1
 
@@ -144,19 +149,43 @@ write-ranked d s t r bytes room =
     decides-lt 9 t otherwise λ n₉.
     decides-lt room (length (telegramFor d s t r bytes)) otherwise λ n₆. tt)
 
--- and so of the answers, both ways: `.0` for each number, `.1` for none
-pub read-exactly : (frame : List ℕ) (room : ℕ)
-    → ((f : Fault) → (readFrame frame room ≡ reading.Refused f) ↔ First (readRows frame room) f)
-    × ((readFrame frame room ≡ reading.Telegram (fieldsOf (messageOf frame))) ↔ NoRow (readRows frame room))
-unfolding readFrame
-read-exactly frame room =
-    told-exactly (λ (o : Option Fault). readAnswer o (fieldsOf (messageOf frame))) reading.Refused (λ f. refl) (λ f g e. cc) (λ f e. clash (cc))
-    (readRows frame room) (readRefusal frame room) (read-ranked frame room)
+-- so by number of whatever the contracts allow
+reading-told : (o : Option Fault) (t : Fields) → readTold (readAnswer o t) ≡ raised faultNumber o
+reading-told none t = refl
+reading-told (some f) t = refl
 
-pub write-exactly : (d s t r : ℕ) (bytes : List ℕ) (room : ℕ)
-    → ((f : Fault) → (writeAnswer (writeRefusal d s t r bytes room) (length (telegramFor d s t r bytes)) ≡ writing.Refused f) ↔ First (writeRows d s t r bytes room) f)
-    × ((writeAnswer (writeRefusal d s t r bytes room) (length (telegramFor d s t r bytes)) ≡ writing.Written (length (telegramFor d s t r bytes)))
-    ↔ NoRow (writeRows d s t r bytes room))
-write-exactly d s t r bytes room =
-    told-exactly (λ (o : Option Fault). writeAnswer o (length (telegramFor d s t r bytes))) writing.Refused (λ f. refl) (λ f g e. cc) (λ f e. clash (cc))
-    (writeRows d s t r bytes room) (writeRefusal d s t r bytes room) (write-ranked d s t r bytes room)
+writing-told : (o : Option Fault) (n : ℕ) → writeTold (writeAnswer o n) ≡ raised faultNumber o
+writing-told none n = refl
+writing-told (some f) n = refl
+
+pub examine-exactly : (frame : List ℕ) (room : ℕ) (r : Reading) → Judges frame room r
+    → Numbered (passedUp faultNumber (readRows frame room)) (1 ∷ 2 ∷ 3 ∷ 4 ∷ 5 ∷ 6 ∷ 7 ∷ 8 ∷ 9 ∷ []) (readTold r)
+unfolding readRows readFrame
+examine-exactly frame room r judges =
+    numbered faultNumber (readRows frame room) (readRefusal frame room) (read-ranked frame room)
+    (1 ∷ 2 ∷ 3 ∷ 4 ∷ 5 ∷ 6 ∷ 7 ∷ 8 ∷ 9 ∷ []) refl refl (readTold r) (ap readTold judges ∙ reading-told (readRefusal frame room) (fieldsIn frame))
+
+pub read-exactly : (frame room : List ℕ) (r : Reading) (room′ : List ℕ) → Reads frame room r room′
+    → Numbered (passedUp faultNumber (readRows frame (length room))) (1 ∷ 2 ∷ 3 ∷ 4 ∷ 5 ∷ 6 ∷ 7 ∷ 8 ∷ 9 ∷ []) (readTold r)
+read-exactly frame room r room′ reads = examine-exactly frame (length room) r (reads .0)
+
+pub write-exactly : (d s t r : ℕ) (bytes room : List ℕ) (w : Writing) (room′ : List ℕ) → Writes d s t r bytes room w room′
+    → Numbered (passedUp faultNumber (writeRows d s t r bytes (length room))) (5 ∷ 8 ∷ 9 ∷ 6 ∷ []) (writeTold w)
+unfolding writeRows
+write-exactly d s t r bytes room w room′ writes =
+    numbered faultNumber (writeRows d s t r bytes (length room)) (writeRefusal d s t r bytes (length room)) (write-ranked d s t r bytes (length room))
+    (5 ∷ 8 ∷ 9 ∷ 6 ∷ []) refl refl (writeTold w)
+    (ap writeTold (writes .0) ∙ writing-told (writeRefusal d s t r bytes (length room)) (length (telegramFor d s t r bytes)))
+
+-- a frame that begins and ends right, with no 10 or 13 between, and is offered with 240 bytes of room or more: only these numbers refuse it
+pub framed-numbers : (frame : List ℕ) (room : ℕ) → 240 ≤ room → (IsNotFramed frame → ⊥) → (HasStrayEnd frame → ⊥)
+    → (f : Fault) → readRefusal frame room ≡ some f → stands (faultNumber f) (3 ∷ 4 ∷ 5 ∷ 7 ∷ 8 ∷ 9 ∷ []) ≡ true
+unfolding readRows OverRoom IsLong
+framed-numbers frame room wide right no-stray f e =
+    ⊎-elim (λ a. absurd (right (a .0))) (λ b₁. ⊎-elim (λ a. absurd (no-stray (a .0))) (λ b₂. ⊎-elim (λ a. is (a .1)) (λ b₃. ⊎-elim (λ a. is (a .1))
+    (λ b₄. ⊎-elim (λ a. is (a .1)) (λ b₅. ⊎-elim (λ a. absurd (b₅ .0 (a .0 .0, a .0 .1, omega (arith, wide, a .0 .2)))) (λ b₆. ⊎-elim (λ a. is (a .1))
+    (λ b₇. ⊎-elim (λ a. is (a .1)) (λ b₈. ⊎-elim (λ a. is (a .1)) (λ b₉. absurd (b₉ .1)) (b₈ .1)) (b₇ .1)) (b₆ .1)) (b₅ .1)) (b₄ .1)) (b₃ .1)) (b₂ .1))
+    (b₁ .1)) (refused-exactly (readRows frame room) (readRefusal frame room) (read-ranked frame room) f .0 e)
+  where
+    is : {g : Fault} → f ≡ g → stands (faultNumber f) (3 ∷ 4 ∷ 5 ∷ 7 ∷ 8 ∷ 9 ∷ []) ≡ stands (faultNumber g) (3 ∷ 4 ∷ 5 ∷ 7 ∷ 8 ∷ 9 ∷ [])
+    is q = ap (λ (h : Fault). stands (faultNumber h) (3 ∷ 4 ∷ 5 ∷ 7 ∷ 8 ∷ 9 ∷ [])) q

@@ -1,6 +1,6 @@
 -- How a telegram is put together in the writer's space and in the lent room.
 -- Assumes nothing.
-use mathlib.Core.Path.{_≡_, ap, ap₂, _∙_}
+use mathlib.Core.Path.{_≡_, refl, ap, ap₂, _∙_}
 use mathlib.Core.List.{List, [], _∷_, _++_}
 use mathlib.Core.Option.{some, none}
 use Prim.Native.Nat.{ℕ, _+_, _-_, _*_, _/_, _%_, _≤_, _<_}
@@ -13,7 +13,7 @@ use Rattle.remainder.specs.Remainder.{remainderOf}
 use Rattle.frame.proofs.Laws.{length-substitute, length-framed}
 use Rattle.frame.specs.Frame.{substitute, substituted, framed}
 use Rattle.telegram.specs.declared.Fault.the-variants.{NoRoom}
-use Rattle.telegram.specs.Write.{sealed, unsealed, messageFor, roomRefusal, writeRefusal}
+use Rattle.telegram.specs.Write.{sealed, unsealed, messageFor, telegramFor, roomRefusal, writeRefusal}
 use Rattle.telegram.proofs.Judge.{whole-part}
 
 -- ---- the message, laid piece by piece
@@ -89,6 +89,13 @@ pub write-sends : (d s t r : ℕ) (bytes part : List ℕ) (room : ℕ) → lengt
 unfolding writeRefusal roomRefusal
 write-sends d s t r bytes part room h hd hs ht e =
     rw e (simp (le-ltb 240 (length bytes) h, ne-eqb d 0 hd, ne-eqb s 0 hs, le-ltb 9 t ht))
+
+pub write-passes : (d s t r : ℕ) (bytes : List ℕ) (room : ℕ) → length bytes ≤ 240 → (d ≡ 0 → ⊥) → (s ≡ 0 → ⊥) → t ≤ 9
+    → length (telegramFor d s t r bytes) ≤ room → writeRefusal d s t r bytes room ≡ none
+unfolding roomRefusal
+write-passes d s t r bytes room h hd hs ht fits =
+    write-sends d s t r bytes (messageFor d s t r bytes) room h hd hs ht refl
+    ∙ simp (le-ltb room (length (telegramFor d s t r bytes)) fits)
 
 pub length-messageFor : (d s t r : ℕ) (bytes : List ℕ) → length (messageFor d s t r bytes) ≡ length bytes + 6
 unfolding sealed

@@ -98,6 +98,11 @@ faultNumber CheckFault = 7
 faultNumber ZeroAddress = 8
 faultNumber UnknownType = 9
 
+-- the number that a reading tells, or none
+abbrev pub readTold : Reading → Option ℕ
+readTold (Refused f) = some (faultNumber f)
+readTold (Telegram t) = none
+
 -- ---- how the rows are tested
 
 abbrev pub notFramed : List ℕ → Bool
@@ -166,6 +171,13 @@ fieldsOf message =
 unfoldable pub dataOf : List ℕ → List ℕ
 dataOf message = take (length message - 6) (drop 4 message)
 
+-- what a frame says, and the data that it carries
+abbrev pub fieldsIn : List ℕ → Fields
+fieldsIn frame = fieldsOf (messageOf frame)
+
+abbrev pub dataIn : List ℕ → List ℕ
+dataIn frame = dataOf (messageOf frame)
+
 abbrev pub readAnswer : Option Fault → Fields → Reading
 readAnswer (some f) t = Refused f
 readAnswer none t = Telegram t
@@ -176,14 +188,14 @@ roomAfter (some f) bytes room = room
 roomAfter none bytes room = over bytes room
 
 unfoldable pub readFrame : List ℕ → ℕ → Reading
-readFrame frame room = readAnswer (readRefusal frame room) (fieldsOf (messageOf frame))
+readFrame frame room = readAnswer (readRefusal frame room) (fieldsIn frame)
 
 -- ---- the contracts
 
 -- `read`: a frame and a lent buffer
 abbrev pub Reads : List ℕ → List ℕ → Reading → List ℕ → Type 0
 Reads frame room r room′ =
-    (r ≡ readFrame frame (length room)) × (room′ ≡ roomAfter (readRefusal frame (length room)) (dataOf (messageOf frame)) room)
+    (r ≡ readFrame frame (length room)) × (room′ ≡ roomAfter (readRefusal frame (length room)) (dataIn frame) room)
 
 -- `examine`: the same judgement with so much room, and no buffer
 abbrev pub Judges : List ℕ → ℕ → Reading → Type 0

@@ -11,9 +11,10 @@ use lib.ListN.{length}
 use Rattle.remainder.specs.Remainder.{remainderOf}
 use Rattle.rows.specs.Rows.{Row, row, Test, test, firstOf}
 use Rattle.frame.specs.Frame.{framed}
-use Rattle.telegram.specs.Read.{roomAfter}
+use Rattle.telegram.specs.Read.{roomAfter, faultNumber}
 use Rattle.telegram.specs.declared.Fault.{Fault}
 use Rattle.telegram.specs.declared.Fault.the-variants.{LongMessage, NoRoom, ZeroAddress, UnknownType}
+use Rattle.telegram.specs.declared.Fields.{Fields}
 use Rattle.telegram.specs.declared.Writing.{Writing}
 use Rattle.telegram.specs.declared.Writing.the-variants.{Written, Refused}
 
@@ -31,6 +32,11 @@ messageFor destination source sort register bytes = sealed (unsealed destination
 
 abbrev pub telegramFor : ℕ → ℕ → ℕ → ℕ → List ℕ → List ℕ
 telegramFor destination source sort register bytes = framed (messageFor destination source sort register bytes)
+
+-- what its reader is to answer
+abbrev pub fieldsFor : ℕ → ℕ → ℕ → ℕ → List ℕ → Fields
+fieldsFor destination source sort register bytes =
+    record { destination = destination; source = source; sort = sort; register = register; size = length bytes }
 
 -- ---- the rows
 
@@ -58,6 +64,11 @@ writeRows destination source sort register bytes room =
     ∷ row (IsUnknownType sort) UnknownType
     ∷ row (IsOverRoom (telegramFor destination source sort register bytes) room) NoRoom
     ∷ []
+
+-- the number that a writing tells, or none
+abbrev pub writeTold : Writing → Option ℕ
+writeTold (Refused f) = some (faultNumber f)
+writeTold (Written n) = none
 
 -- ---- how they are tested, and what is answered
 

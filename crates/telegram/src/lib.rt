@@ -8,6 +8,37 @@ pub use reader::read;
 pub use writer::write;
 ghost use Rattle.telegram.specs.Read.{Numbers, Tells};
 
+// The types of telegrams: what a module answers, and what a host asks.
+pub const NACK: u8 = 0;
+
+pub const CHECK_ERROR: u8 = 1;
+
+pub const BUSY: u8 = 2;
+
+pub const ACK: u8 = 3;
+
+pub const READ: u8 = 4;
+
+pub const WRITE: u8 = 5;
+
+pub const SET_BITS: u8 = 6;
+
+pub const CLEAR_BITS: u8 = 7;
+
+pub const DATAGRAM: u8 = 8;
+
+pub const TOGGLE_BITS: u8 = 9;
+
+// A message is its four fields, from DATA_AT on its data, and the remainder in two bytes: SHORTEST
+// without data, LONGEST with MOST_DATA of them.
+const DATA_AT: usize = 4;
+
+pub const MOST_DATA: usize = 240;
+
+const SHORTEST: usize = 6;
+
+const LONGEST: usize = 246;
+
 // Why a frame could not be read, or a telegram not be written.
 pub enum Fault {
     NotFramed,

@@ -1,12 +1,17 @@
 // The frame reader. Each row has a pass of its own, so the rows' order is the order of the passes.
+use crate::DATA_AT;
 use crate::Fault;
 use crate::Fields;
 use crate::Judged;
+use crate::LONGEST;
 use crate::Reading;
+use crate::SHORTEST;
+use crate::TOGGLE_BITS;
 use frame::END;
 use frame::START;
 use frame::SUBSTITUTION;
-ghost use Rattle.telegram.specs.Read.{Reads, Judges, byte, readFrame, readRefusal, readAnswer, fieldsOf, judged, frameTests, lengthTests, messageTests, notFramed, hasStrayEnd, hasBadSubstitution, isBad, messageRefusal};
+ghost use Rattle.telegram.specs.Read.{Reads, Judges, readFrame, readRefusal, readAnswer, fieldsOf, judged, frameTests, lengthTests, messageTests};
+ghost use Rattle.telegram.specs.Read.{notFramed, hasStrayEnd, hasBadSubstitution, isBad, isSubstitute, messageRefusal};
 ghost use Rattle.frame.specs.Frame.{between, messageOf, restored};
 ghost use Rattle.lent.specs.Lent.{over};
 ghost use Rattle.rows.specs.Rows.{firstOf};
@@ -15,9 +20,6 @@ ghost use mathlib.Core.Bool.{false};
 ghost use mathlib.Core.Option.{none};
 ghost use Prim.Native.Nat.{_-_, _≤_};
 ghost use lib.ListN.{length, take, drop};
-
-// The longest message: the four fields, 240 data bytes and the remainder.
-const LONGEST: usize = 246;
 
 // Reads a frame. Its data go into the room's first bytes, and the rest of the room stays; a
 // refusal leaves all of it.
@@ -29,8 +31,8 @@ pub fn read(frame: &[u8], room: &mut [u8]) -> Reading
     let Reading::Telegram(t) = answer else {
         return answer;
     };
-    let end = 4 + t.size;
-    lent::lay_at(&message[4..end], room, 0);
+    let end = DATA_AT + t.size;
+    lent::lay_at(&message[DATA_AT..end], room, 0);
     answer
 }
 
@@ -45,7 +47,8 @@ pub fn examine(frame: &[u8], room: usize) -> Reading
 // The judgement that both share. `message` takes the message, where there is one.
 fn judge(frame: &[u8], room: usize, message: &mut [u8]) -> Reading
     requires { ⌜ length (now message) ≡ 246 ⌝ }
-    ensures { λ r. ⌜ (r ≡ readFrame (now (frame .entry)) room) × (readRefusal (now (frame .entry)) room ≡ none → now (message .exit) ≡ over (messageOf (now (frame .entry))) (now (message .entry))) ⌝ }
+    ensures { λ r. ⌜ (r ≡ readFrame (now (frame .entry)) room)
+        × (readRefusal (now (frame .entry)) room ≡ none → now (message .exit) ≡ over (messageOf (now (frame .entry))) (now (message .entry))) ⌝ }
 {
     match framing(frame) {
         Judged::Unsound(fault) => Reading::Refused(fault),
@@ -56,7 +59,8 @@ fn judge(frame: &[u8], room: usize, message: &mut [u8]) -> Reading
 // Rows 4 to 9, of what stands between the ends.
 fn judge_between(bytes: &[u8], room: usize, message: &mut [u8]) -> Reading
     requires { ⌜ length (now message) ≡ 246 ⌝ }
-    ensures { λ r. ⌜ (r ≡ readAnswer (messageRefusal (restored false (now (bytes .entry))) room) (fieldsOf (restored false (now (bytes .entry))))) × (now (message .exit) ≡ over (restored false (now (bytes .entry))) (now (message .entry))) ⌝ }
+    ensures { λ r. ⌜ (r ≡ readAnswer (messageRefusal (restored false (now (bytes .entry))) room) (fieldsOf (restored false (now (bytes .entry)))))
+        × (now (message .exit) ≡ over (restored false (now (bytes .entry))) (now (message .entry))) ⌝ }
 {
     let n = frame::restore(bytes, message);
     match sized(n, room) {
@@ -73,13 +77,10 @@ fn judge_message(message: &[u8]) -> Reading
     if remainder::remainder(message) != 0 {
         return Reading::Refused(Fault::CheckFault);
     }
-    if message[0] == 0 {
+    if message[0] == 0 || message[1] == 0 {
         return Reading::Refused(Fault::ZeroAddress);
     }
-    if message[1] == 0 {
-        return Reading::Refused(Fault::ZeroAddress);
-    }
-    if 9 < message[2] {
+    if TOGGLE_BITS < message[2] {
         return Reading::Refused(Fault::UnknownType);
     }
     Reading::Telegram(Fields {
@@ -87,7 +88,7 @@ fn judge_message(message: &[u8]) -> Reading
         source: message[1],
         sort: message[2],
         register: message[3],
-        size: message.len() - 6,
+        size: message.len() - SHORTEST,
     })
 }
 
@@ -112,13 +113,13 @@ fn framing(frame: &[u8]) -> Judged
 fn sized(n: usize, room: usize) -> Judged
     ensures { λ r. ⌜ r ≡ judged (firstOf (lengthTests n room)) ⌝ }
 {
-    if n < 6 {
+    if n < SHORTEST {
         return Judged::Unsound(Fault::ShortMessage);
     }
     if LONGEST < n {
         return Judged::Unsound(Fault::LongMessage);
     }
-    if room < n - 6 {
+    if room < n - SHORTEST {
         return Judged::Unsound(Fault::NoRoom);
     }
     Judged::Sound
@@ -136,13 +137,7 @@ fn inside(frame: &[u8]) -> &[u8]
 fn not_framed(frame: &[u8]) -> bool
     ensures { λ r. ⌜ r ≡ notFramed (now (frame .entry)) ⌝ }
 {
-    if frame.len() < 2 {
-        return true;
-    }
-    if frame[0] != START {
-        return true;
-    }
-    frame[frame.len() - 1] != END
+    frame.len() < 2 || frame[0] != START || frame[frame.len() - 1] != END
 }
 
 fn stray_end(bytes: &[u8]) -> bool
@@ -150,10 +145,7 @@ fn stray_end(bytes: &[u8]) -> bool
 {
     let mut i = 0;
     while i < bytes.len() {
-        if bytes[i] == END {
-            return true;
-        }
-        if bytes[i] == START {
+        if bytes[i] == END || bytes[i] == START {
             return true;
         }
         i += 1;
@@ -180,14 +172,15 @@ fn bad_substitution(bytes: &[u8]) -> bool
 fn bad_after(after: bool, byte: u8) -> bool
     ensures { λ r. ⌜ r ≡ isBad after byte ⌝ }
 {
-    if after {
-        if byte == 74 {
-            return false;
-        }
-        if byte == 77 {
-            return false;
-        }
-        return byte != 158;
+    after && !is_substitute(byte)
+}
+
+// 94 stands for 10, 13 or 94 only with one of these after it.
+fn is_substitute(byte: u8) -> bool
+    ensures { λ r. ⌜ r ≡ isSubstitute byte ⌝ }
+{
+    match byte {
+        74 | 77 | 158 => true,
+        _ => false,
     }
-    false
 }

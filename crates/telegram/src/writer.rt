@@ -1,5 +1,10 @@
 // The frame writer.
+use crate::DATA_AT;
 use crate::Fault;
+use crate::LONGEST;
+use crate::MOST_DATA;
+use crate::SHORTEST;
+use crate::TOGGLE_BITS;
 use crate::Writing;
 use frame::END;
 use frame::START;
@@ -21,21 +26,18 @@ pub fn write(
 ) -> Writing
     ensures { λ r. ⌜ Writes destination source sort register (now («data» .entry)) (now (room .entry)) r (now (room .exit)) ⌝ }
 {
-    if 240 < data.len() {
+    if MOST_DATA < data.len() {
         return Writing::Refused(Fault::LongMessage);
     }
-    if destination == 0 {
+    if destination == 0 || source == 0 {
         return Writing::Refused(Fault::ZeroAddress);
     }
-    if source == 0 {
-        return Writing::Refused(Fault::ZeroAddress);
-    }
-    if 9 < sort {
+    if TOGGLE_BITS < sort {
         return Writing::Refused(Fault::UnknownType);
     }
-    let mut message = [0u8; 246];
+    let mut message = [0u8; LONGEST];
     compose(destination, source, sort, register, data, &mut message);
-    let n = data.len() + 6;
+    let n = data.len() + SHORTEST;
     send(&message[0..n], room)
 }
 
@@ -46,8 +48,8 @@ fn compose(destination: u8, source: u8, sort: u8, register: u8, data: &[u8], spa
     ensures { λ _. ⌜ now (space .exit) ≡ over (messageFor destination source sort register (now («data» .entry))) (now (space .entry)) ⌝ }
 {
     lent::lay_at(&[destination, source, sort, register], space, 0);
-    lent::lay_at(data, space, 4);
-    let n = data.len() + 4;
+    lent::lay_at(data, space, DATA_AT);
+    let n = data.len() + DATA_AT;
     let check = remainder::remainder(&space[0..n]);
     lent::lay_at(&[(check / 256) as u8, (check % 256) as u8], space, n);
 }

@@ -30,7 +30,9 @@ counted xs after opened n i r w h o e inv =
     omega arith
 
 abbrev Inv-loop : tie.InvT-loop
-Inv-loop bytes room₀ after₀ n₀ i₀ room after n i = (i ≤ length bytes) × (n ≤ i) × (length room ≡ length room₀) × (n + length (restored after (drop i bytes)) ≡ length (restored false bytes)) × (overAt n (restored after (drop i bytes)) room ≡ over (restored false bytes) room₀)
+Inv-loop bytes room₀ after₀ n₀ i₀ room after n i =
+    (i ≤ length bytes) × (n ≤ i) × (length room ≡ length room₀)
+    × (n + length (restored after (drop i bytes)) ≡ length (restored false bytes)) × (overAt n (restored after (drop i bytes)) room ≡ over (restored false bytes) room₀)
 
 abbrev μ-loop : tie.MeasureT-loop
 μ-loop bytes room₀ after₀ n₀ i₀ room after n i = length bytes - i
@@ -45,7 +47,10 @@ restore-one-requires : tie.Need-restore-one-requires Inv-loop μ-loop
 restore-one-requires c κs = search needs
 
 add-n : tie.Need-add-n Inv-loop μ-loop
-add-n c = record { fits = omega (arith, given-one (c .before .before .before .before .before .before .loop .after) (c .before .before .before .before .before .before .before .before .before .args .bytes .now) (c .before .before .before .before .before .before .loop .i) (c .before .before .restore-one .ensures .0)) }
+add-n c =
+    let args = c .before .before .before .before .before .before .before .before .before .args in
+    let loop = c .before .before .before .before .before .before .loop in
+    record { fits = omega (arith, given-one (loop .after) (args .bytes .now) (loop .i) (c .before .before .restore-one .ensures .0)) }
 
 shared-slice-read-opens-pair : tie.Need-shared-slice-read-opens-pair Inv-loop μ-loop
 shared-slice-read-opens-pair c = search needs
@@ -60,14 +65,28 @@ loop-less : tie.Need-loop-less Inv-loop μ-loop
 loop-less c = search needs
 
 loop-again : tie.Need-loop-again Inv-loop μ-loop
-loop-again c = (omega arith, omega (arith, given-one (c .before .before .before .before .before .before .before .before .loop .after) (c .before .before .before .before .before .before .before .before .before .before .before .args .bytes .now) (c .before .before .before .before .before .before .before .before .loop .i) (c .before .before .before .before .restore-one .ensures .0)), ap length (c .before .before .before .before .restore-one .ensures .1) ∙ length-overAt _ _ _ ∙ c .before .before .before .before .before .before .before .before .loop .inv .2, counted _ _ _ _ _ _ _ (c .before .before .before .before .before .before .before .loop-test .taken) (c .opens-pair .ensures) (c .before .before .before .before .restore-one .ensures .0) (c .before .before .before .before .before .before .before .before .loop .inv .3), step _ _ _ _ _ _ _ _ _ (c .before .before .before .before .before .before .before .loop-test .taken) (c .opens-pair .ensures) (c .before .before .before .before .restore-one .ensures) (c .before .before .before .before .before .before .before .before .loop .inv .4))
+loop-again c =
+    let args = c .before .before .before .before .before .before .before .before .before .before .before .args in
+    let loop = c .before .before .before .before .before .before .before .before .loop in
+    let loop-test = c .before .before .before .before .before .before .before .loop-test in
+    let restore-one = c .before .before .before .before .restore-one in (
+      omega arith,
+      omega (arith, given-one (loop .after) (args .bytes .now) (loop .i) (restore-one .ensures .0)),
+      ap length (restore-one .ensures .1)
+          ∙ length-overAt _ _ _ ∙ loop .inv .2,
+      counted _ _ _ _ _ _ _ (loop-test .taken) (c .opens-pair .ensures) (restore-one .ensures .0)
+          (loop .inv .3),
+      step _ _ _ _ _ _ _ _ _ (loop-test .taken) (c .opens-pair .ensures) (restore-one .ensures) (loop .inv .4),
+    )
 
 same-length : tie.Need-same-length Inv-loop μ-loop
 same-length c = search needs
 
 returns : tie.Need-returns Inv-loop μ-loop
 unfolding restored
-returns c = let end : drop (c .before .loop .i) (c .before .before .before .before .args .bytes .now) ≡ [] = drop-of-length-le _ (c .loop-test .left) in (sym (add-zero _) ∙ (rw end at (c .before .loop .inv .3)), sym (overAt-none (c .before .loop .n) (c .before .loop .room)) ∙ (rw end at (c .before .loop .inv .4)))
+returns c =
+    let end : drop (c .before .loop .i) (c .before .before .before .before .args .bytes .now) ≡ [] = drop-of-length-le _ (c .loop-test .left) in
+    (sym (add-zero _) ∙ (rw end at (c .before .loop .inv .3)), sym (overAt-none (c .before .loop .n) (c .before .loop .room)) ∙ (rw end at (c .before .loop .inv .4)))
 
 pub restore-spec : {M : Type 1} → statement M
 restore-spec =

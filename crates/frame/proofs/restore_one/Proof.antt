@@ -18,7 +18,9 @@ same-length : tie.Need-same-length
 same-length c = search needs
 
 returns : tie.Need-returns
-returns c = (rw (c .before .before .before .before .before .before .if1 .taken), rw (c .before .before .before .before .before .before .if1 .taken, ← c .before .before .before .before .before .less-64 .ensures) (c .before .before .lay-at .ensures))
+returns c =
+    let if1 = c .before .before .before .before .before .before .if1 in
+    (rw (if1 .taken), rw (if1 .taken, ← c .before .before .before .before .before .less-64 .ensures) (c .before .before .lay-at .ensures))
 
 returns-2 : tie.Need-returns-2
 returns-2 c = rw (c .before .if1 .left) (simp (eq-eqb _ _ (c .if2 .taken)) (refl, sym (overAt-none _ _)))

@@ -41,7 +41,11 @@ substitute-one-requires : tie.Need-substitute-one-requires Inv-loop μ-loop
 substitute-one-requires c κs = search needs
 
 add-to : tie.Need-add-to Inv-loop μ-loop
-add-to c = record { fits = omega (arith, c .before .before .before .before .before .before .before .before .before .before .good .1 .0 .1, taken-two (c .before .before .before .before .before .before .before .before .before .before .args .message .now) (c .before .before .before .before .before .before .before .loop .i) (c .before .before .substitute-one .ensures .0)) }
+add-to c =
+    let good = c .before .before .before .before .before .before .before .before .before .before .good in
+    let args = c .before .before .before .before .before .before .before .before .before .before .args in
+    let loop = c .before .before .before .before .before .before .before .loop in
+    record { fits = omega (arith, good .1 .0 .1, taken-two (args .message .now) (loop .i) (c .before .before .substitute-one .ensures .0)) }
 
 add-i : tie.Need-add-i Inv-loop μ-loop
 add-i c = search needs
@@ -50,14 +54,24 @@ loop-less : tie.Need-loop-less Inv-loop μ-loop
 loop-less c = search needs
 
 loop-again : tie.Need-loop-again Inv-loop μ-loop
-loop-again c = (omega arith, ap length (c .before .before .substitute-one .ensures .1) ∙ length-overAt _ _ _ ∙ c .before .before .before .before .before .before .before .loop .inv .1, step _ _ _ _ _ _ _ (c .before .before .before .before .before .before .loop-test .taken) (c .before .before .substitute-one .ensures .0) (c .before .before .substitute-one .ensures .1) (c .before .before .before .before .before .before .before .loop .inv .2))
+loop-again c =
+    let loop = c .before .before .before .before .before .before .before .loop in
+    let loop-test = c .before .before .before .before .before .before .loop-test in
+    let substitute-one = c .before .before .substitute-one in (
+      omega arith,
+      ap length (substitute-one .ensures .1) ∙ length-overAt _ _ _ ∙ loop .inv .1,
+      step _ _ _ _ _ _ _ (loop-test .taken) (substitute-one .ensures .0)
+          (substitute-one .ensures .1) (loop .inv .2),
+    )
 
 same-length-2 : tie.Need-same-length-2 Inv-loop μ-loop
 same-length-2 c = search needs
 
 returns-2 : tie.Need-returns-2 Inv-loop μ-loop
 unfolding substituted
-returns-2 c = let end : drop (c .before .loop .i) (c .before .before .before .before .args .message .now) ≡ [] = drop-of-length-le _ (c .loop-test .left) in sym (overAt-none (c .before .loop .to) (c .before .loop .room)) ∙ (rw end at (c .before .loop .inv .2))
+returns-2 c =
+    let end : drop (c .before .loop .i) (c .before .before .before .before .args .message .now) ≡ [] = drop-of-length-le _ (c .loop-test .left) in
+    sym (overAt-none (c .before .loop .to) (c .before .loop .room)) ∙ (rw end at (c .before .loop .inv .2))
 
 pub substitute-at-spec : {M : Type 1} → statement M
 substitute-at-spec =

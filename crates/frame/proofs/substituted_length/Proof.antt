@@ -37,7 +37,15 @@ byte-length-requires : tie.Need-byte-length-requires Inv-loop μ-loop
 byte-length-requires c κs = search needs
 
 add-n : tie.Need-add-n Inv-loop μ-loop
-add-n c = record { fits = omega (arith, c .before .before .before .before .before .good .0 .1, taken-two (c .before .before .before .before .before .args .message .now) (c .before .before .before .loop .i) (c .byte-length .ensures)) }
+add-n c =
+    record {
+      fits = omega (
+        arith,
+        c .before .before .before .before .before .good .0 .1,
+        taken-two (c .before .before .before .before .before .args .message .now)
+            (c .before .before .before .loop .i) (c .byte-length .ensures),
+      );
+    }
 
 add-i : tie.Need-add-i Inv-loop μ-loop
 add-i c = search needs
@@ -46,11 +54,21 @@ loop-less : tie.Need-loop-less Inv-loop μ-loop
 loop-less c = search needs
 
 loop-again : tie.Need-loop-again Inv-loop μ-loop
-loop-again c = (omega arith, omega (arith, taken-two (c .before .before .before .before .before .args .message .now) (c .before .before .before .loop .i) (c .byte-length .ensures)), step _ _ _ _ _ (c .before .before .loop-test .taken) (c .byte-length .ensures) (c .before .before .before .loop .inv .2))
+loop-again c = (
+  omega arith,
+  omega (
+    arith,
+    taken-two (c .before .before .before .before .before .args .message .now) (c .before .before .before .loop .i)
+        (c .byte-length .ensures),
+  ),
+  step _ _ _ _ _ (c .before .before .loop-test .taken) (c .byte-length .ensures) (c .before .before .before .loop .inv .2),
+)
 
 returns : tie.Need-returns Inv-loop μ-loop
 unfolding substituted
-returns c = let end : drop (c .before .loop .i) (c .before .before .before .args .message .now) ≡ [] = drop-of-length-le _ (c .loop-test .left) in sym (add-zero _) ∙ (rw end at (c .before .loop .inv .2))
+returns c =
+    let end : drop (c .before .loop .i) (c .before .before .before .args .message .now) ≡ [] = drop-of-length-le _ (c .loop-test .left) in
+    sym (add-zero _) ∙ (rw end at (c .before .loop .inv .2))
 
 pub substituted-length-spec : {M : Type 1} → statement M
 substituted-length-spec =

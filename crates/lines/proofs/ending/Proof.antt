@@ -15,7 +15,11 @@ same-length : tie.Need-same-length
 same-length c = search needs
 
 returns : tie.Need-returns
-returns c = ending-open (c .before .before .before .before .before .before .before .before .before .before .args .start) (c .before .before .before .before .before .before .before .before .before .before .args .ok) (c .before .before .before .before .before .before .before .before .before .before .args .refused) (c .before .before .before .before .before .before .before .before .before .before .args .dropped) (c .before .before .before .before .before .before .before .before .before .before .args .inside) _ _ _ _ _ (c .before .before .before .before .before .before .before .before .if1 .taken) (c .before .before .before .before .before .before .line .ensures) (c .before .before .totals .ensures)
+returns c =
+    let args = c .before .before .before .before .before .before .before .before .before .before .args in
+    let if1 = c .before .before .before .before .before .before .before .before .if1 in
+    let line = c .before .before .before .before .before .before .line in
+    ending-open (args .start) (args .ok) (args .refused) (args .dropped) (args .inside) _ _ _ _ _ (if1 .taken) (line .ensures) (c .before .before .totals .ensures)
 
 totals-requires-2 : tie.Need-totals-requires-2
 totals-requires-2 c κs = search needs
@@ -24,7 +28,10 @@ same-length-2 : tie.Need-same-length-2
 same-length-2 c = search needs
 
 returns-2 : tie.Need-returns-2
-returns-2 c = ending-closed (c .before .before .before .before .before .before .args .start) (c .before .before .before .before .before .before .args .ok) (c .before .before .before .before .before .before .args .refused) (c .before .before .before .before .before .before .args .dropped) (c .before .before .before .before .before .before .args .inside) _ _ _ (c .before .before .before .before .if1 .left) (c .before .before .totals2 .ensures)
+returns-2 c =
+    let args = c .before .before .before .before .before .before .args in
+    ending-closed (args .start) (args .ok) (args .refused) (args .dropped) (args .inside) _ _ _ (c .before .before .before .before .if1 .left)
+    (c .before .before .totals2 .ensures)
 
 pub ending-spec : {M : Type 1} → statement M
 ending-spec =

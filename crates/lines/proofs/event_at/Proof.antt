@@ -48,13 +48,20 @@ same-length : tie.Need-same-length
 same-length c = search needs
 
 returns : tie.Need-returns
-returns c = (event-put _ (Read (c .before .before .before .before .before .event .given .0 .0)) _ _ _ _ (c .before .before .before .before .before .event .given .1) (c .before .before .fields .ensures .0), c .before .before .fields .ensures .1)
+returns c =
+    let event = c .before .before .before .before .before .event in
+    (event-put _ (Read (event .given .0 .0)) _ _ _ _ (event .given .1) (c .before .before .fields .ensures .0), c .before .before .fields .ensures .1)
 
 same-length-2 : tie.Need-same-length-2
 same-length-2 c = search needs
 
 returns-2 : tie.Need-returns-2
-returns-2 c = (event-put _ (Refused (c .before .before .before .before .before .before .before .event2 .given .0 .0)) _ _ _ _ (c .before .before .before .before .before .before .before .event2 .given .1) (refused-put (c .before .before .before .before .before .before .before .event2 .given .0 .0) _ _ _ _ _ (c .before .before .before .before .number .ensures) (c .before .before .labelled .ensures .0)), omega arith)
+returns-2 c =
+    let event2 = c .before .before .before .before .before .before .before .event2 in (
+      event-put _ (Refused (event2 .given .0 .0)) _ _ _ _ (event2 .given .1)
+          (refused-put (event2 .given .0 .0) _ _ _ _ _ (c .before .before .before .before .number .ensures) (c .before .before .labelled .ensures .0)),
+      omega arith,
+    )
 
 same-length-3 : tie.Need-same-length-3
 same-length-3 c = search needs

@@ -14,7 +14,13 @@ decimal-at-requires : tie.Need-decimal-at-requires
 decimal-at-requires c κs = search needs
 
 add-result : tie.Need-add-result
-add-result c = record { fits = let h = field-fits (c .before .before .before .before .before .before .before .before .before .before .args .n) (c .before .before .before .before .before .before .word .result) (c .before .before .decimal-at .result) _ _ (omega arith) (c .before .before .decimal-at .ensures) in omega arith }
+add-result c =
+    let args = c .before .before .before .before .before .before .before .before .before .before .args in
+    let word = c .before .before .before .before .before .before .word in
+    record {
+      fits = let h = field-fits (args .n) (word .result) (c .before .before .decimal-at .result) _ _ (omega arith)
+          (c .before .before .decimal-at .ensures) in omega arith;
+    }
 
 same-length : tie.Need-same-length
 same-length c = search needs

@@ -41,13 +41,31 @@ same-length : tie.Need-same-length
 same-length c = search needs
 
 returns : tie.Need-returns
-returns c = (
-  puts-then (labelled (ascii " ok") (c .before .before .before .before .before .before .before .before .before .before .before .before .before .before .before .before .before .before .before .before .before .before .before .before .before .before .args .t .destination)) (field (c .before .before .before .before .before .before .before .before .before .before .before .before .before .before .before .before .before .before .before .before .before .before .before .before .before .before .args .t .source) ++ (field (c .before .before .before .before .before .before .before .before .before .before .before .before .before .before .before .before .before .before .before .before .before .before .before .before .before .before .args .t .sort) ++ (field (c .before .before .before .before .before .before .before .before .before .before .before .before .before .before .before .before .before .before .before .before .before .before .before .before .before .before .args .t .register) ++ field (c .before .before .before .before .before .before .before .before .before .before .before .before .before .before .before .before .before .before .before .before .before .before .before .before .before .before .args .t .size)))) _ _ _ _ _ _ (c .before .before .before .before .before .before .before .before .before .before .before .before .before .before .before .before .before .before .before .before .before .labelled .ensures .0)
-      (puts-then (field (c .before .before .before .before .before .before .before .before .before .before .before .before .before .before .before .before .before .before .before .before .before .before .before .before .before .before .args .t .source)) (field (c .before .before .before .before .before .before .before .before .before .before .before .before .before .before .before .before .before .before .before .before .before .before .before .before .before .before .args .t .sort) ++ (field (c .before .before .before .before .before .before .before .before .before .before .before .before .before .before .before .before .before .before .before .before .before .before .before .before .before .before .args .t .register) ++ field (c .before .before .before .before .before .before .before .before .before .before .before .before .before .before .before .before .before .before .before .before .before .before .before .before .before .before .args .t .size))) _ _ _ _ _ _ (c .before .before .before .before .before .before .before .before .before .before .before .before .before .before .before .before .field .ensures .0)
-      (puts-then (field (c .before .before .before .before .before .before .before .before .before .before .before .before .before .before .before .before .before .before .before .before .before .before .before .before .before .before .args .t .sort)) (field (c .before .before .before .before .before .before .before .before .before .before .before .before .before .before .before .before .before .before .before .before .before .before .before .before .before .before .args .t .register) ++ field (c .before .before .before .before .before .before .before .before .before .before .before .before .before .before .before .before .before .before .before .before .before .before .before .before .before .before .args .t .size)) _ _ _ _ _ _ (c .before .before .before .before .before .before .before .before .before .before .before .field2 .ensures .0)
-      (puts-then (field (c .before .before .before .before .before .before .before .before .before .before .before .before .before .before .before .before .before .before .before .before .before .before .before .before .before .before .args .t .register)) (field (c .before .before .before .before .before .before .before .before .before .before .before .before .before .before .before .before .before .before .before .before .before .before .before .before .before .before .args .t .size)) _ _ _ _ _ _ (c .before .before .before .before .before .before .field3 .ensures .0) (c .before .before .field4 .ensures .0)))),
-  omega (arith, c .before .before .before .before .before .before .before .before .before .before .before .before .before .before .before .before .before .before .before .before .before .before .before .before .before .before .pre, c .before .before .before .before .before .before .before .before .before .before .before .before .before .before .before .before .before .before .before .before .before .labelled .ensures .1, c .before .before .before .before .before .before .before .before .before .before .before .before .before .before .before .before .field .ensures .1, c .before .before .before .before .before .before .before .before .before .before .before .field2 .ensures .1, c .before .before .before .before .before .before .field3 .ensures .1, c .before .before .field4 .ensures .1),
-)
+returns c =
+    let third = c .before .before .before .before .before .before .before .before .before .before .before in
+    let first = third .before .before .before .before .before .before .before .before .before .before in
+    let start = first .before .before .before .before .before in
+    let t = start .args .t in
+    let labelled-here = first .labelled in
+    let field-here = third .before .before .before .before .before .field in
+    let field2 = third .field2 in
+    let field3 = c .before .before .before .before .before .before .field3 in (
+      puts-then (labelled (ascii " ok") (t .destination))
+          (field (t .source) ++ (field (t .sort) ++ (field (t .register) ++ field (t .size)))) _ _ _ _ _ _ (labelled-here .ensures .0)
+          (puts-then (field (t .source)) (field (t .sort) ++ (field (t .register) ++ field (t .size))) _ _ _ _ _ _ (field-here .ensures .0)
+          (puts-then (field (t .sort)) (field (t .register) ++ field (t .size)) _ _ _ _ _ _ (field2 .ensures .0)
+          (puts-then (field (t .register)) (field (t .size)) _ _ _ _ _ _ (field3 .ensures .0)
+          (c .before .before .field4 .ensures .0)))),
+      omega (
+        arith,
+        start .pre,
+        labelled-here .ensures .1,
+        field-here .ensures .1,
+        field2 .ensures .1,
+        field3 .ensures .1,
+        c .before .before .field4 .ensures .1,
+      ),
+    )
 
 pub fields-spec : {M : Type 1} → statement M
 fields-spec =

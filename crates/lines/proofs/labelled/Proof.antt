@@ -15,7 +15,10 @@ same-length : tie.Need-same-length
 same-length c = search needs
 
 returns : tie.Need-returns
-returns c = (puts-then (c .before .before .before .before .before .before .before .before .before .before .args .text .now) (field (c .before .before .before .before .before .before .before .before .before .before .args .n)) _ _ _ _ _ _ (c .before .before .before .before .before .before .word .ensures) (c .before .before .field .ensures .0), omega arith)
+returns c =
+    let args = c .before .before .before .before .before .before .before .before .before .before .args in
+    let word = c .before .before .before .before .before .before .word in
+    (puts-then (args .text .now) (field (args .n)) _ _ _ _ _ _ (word .ensures) (c .before .before .field .ensures .0), omega arith)
 
 pub labelled-spec : {M : Type 1} → statement M
 labelled-spec = tie.close (tie.spec word-requires field-requires same-length returns)

@@ -27,9 +27,11 @@ same-length c = search needs
 returns : tie.Need-returns
 unfolding lineText
 returns c =
-    puts-writes _ _ _ _
-    (puts-then (labelled (ascii "at") (c .before .before .before .before .before .before .before .before .before .before .before .before .before .before .before .args .place)) (eventText (c .before .before .before .before .before .before .before .before .before .before .before .before .before .before .before .args .event) ++ newline) _ _ _ _ _ _ (c .before .before .before .before .before .before .before .before .before .before .before .labelled .ensures .0)
-    (puts-then (eventText (c .before .before .before .before .before .before .before .before .before .before .before .before .before .before .before .args .event)) newline _ _ _ _ _ _ (c .before .before .before .before .before .before .before .event-at .ensures .0) (c .before .before .word .ensures)))
+    let args = c .before .before .before .before .before .before .before .before .before .before .before .before .before .before .before .args in
+    let labelled-here = c .before .before .before .before .before .before .before .before .before .before .before .labelled in
+    let event-at = c .before .before .before .before .before .before .before .event-at in
+    puts-writes _ _ _ _ (puts-then (labelled (ascii "at") (args .place)) (eventText (args .event) ++ newline) _ _ _ _ _ _ (labelled-here .ensures .0)
+    (puts-then (eventText (args .event)) newline _ _ _ _ _ _ (event-at .ensures .0) (c .before .before .word .ensures)))
 
 pub line-spec : {M : Type 1} → statement M
 line-spec =

@@ -22,7 +22,9 @@ same-length c = search needs
 
 returns : tie.Need-returns
 unfolding headerText longerText
-returns c = puts-writes (headerText ++ longerText) _ _ _ (puts-then headerText longerText _ _ _ _ _ _ (c .before .before .before .before .before .before .before .word .ensures) (c .before .before .word2 .ensures))
+returns c =
+    let word = c .before .before .before .before .before .before .before .word in
+    puts-writes (headerText ++ longerText) _ _ _ (puts-then headerText longerText _ _ _ _ _ _ (word .ensures) (c .before .before .word2 .ensures))
 
 pub too-long-spec : {M : Type 1} → statement M
 too-long-spec =

@@ -36,9 +36,16 @@ same-length c = search needs
 returns : tie.Need-returns
 unfolding totalsText
 returns c =
-    puts-then (labelled (ascii "ok") (c .before .before .before .before .before .before .before .before .before .before .before .before .before .before .before .before .before .before .before .before .before .args .ok)) (labelled (ascii " refused") (c .before .before .before .before .before .before .before .before .before .before .before .before .before .before .before .before .before .before .before .before .before .args .refused) ++ (labelled (ascii " dropped") (c .before .before .before .before .before .before .before .before .before .before .before .before .before .before .before .before .before .before .before .before .before .args .dropped) ++ newline)) _ _ _ _ _ _ (c .before .before .before .before .before .before .before .before .before .before .before .before .before .before .before .before .before .labelled .ensures .0)
-    (puts-then (labelled (ascii " refused") (c .before .before .before .before .before .before .before .before .before .before .before .before .before .before .before .before .before .before .before .before .before .args .refused)) (labelled (ascii " dropped") (c .before .before .before .before .before .before .before .before .before .before .before .before .before .before .before .before .before .before .before .before .before .args .dropped) ++ newline) _ _ _ _ _ _ (c .before .before .before .before .before .before .before .before .before .before .before .before .labelled2 .ensures .0)
-    (puts-then (labelled (ascii " dropped") (c .before .before .before .before .before .before .before .before .before .before .before .before .before .before .before .before .before .before .before .before .before .args .dropped)) newline _ _ _ _ _ _ (c .before .before .before .before .before .before .before .labelled3 .ensures .0) (c .before .before .word .ensures)))
+    let args =
+    c .before .before .before .before .before .before .before .before .before .before .before .before .before .before .before .before .before .before .before .before .before .args in
+    let labelled-here =
+    c .before .before .before .before .before .before .before .before .before .before .before .before .before .before .before .before .before .labelled in
+    let labelled2 = c .before .before .before .before .before .before .before .before .before .before .before .before .labelled2 in
+    let labelled3 = c .before .before .before .before .before .before .before .labelled3 in
+    puts-then (labelled (ascii "ok") (args .ok)) (labelled (ascii " refused") (args .refused) ++ (labelled (ascii " dropped") (args .dropped) ++ newline)) _ _ _ _ _ _
+    (labelled-here .ensures .0)
+    (puts-then (labelled (ascii " refused") (args .refused)) (labelled (ascii " dropped") (args .dropped) ++ newline) _ _ _ _ _ _ (labelled2 .ensures .0)
+    (puts-then (labelled (ascii " dropped") (args .dropped)) newline _ _ _ _ _ _ (labelled3 .ensures .0) (c .before .before .word .ensures)))
 
 pub totals-spec : {M : Type 1} → statement M
 totals-spec =

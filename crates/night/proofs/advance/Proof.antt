@@ -19,7 +19,13 @@ part-write-all-start : tie.Need-part-write-all-start
 part-write-all-start c = search needs
 
 part-write-all-end : tie.Need-part-write-all-end
-part-write-all-end c = let h = writes-within (stepText (c .before .before .before .before .before .args .scan) (c .before .before .before .before .before .args .capture .now)) _ _ 150 _ (c .before .before .step .ensures .1, c .before .before .step .ensures .2) (step-short (c .before .before .before .before .before .args .scan) (c .before .before .before .before .before .args .capture .now)) (omega arith) in search needs
+part-write-all-end c =
+    let args = c .before .before .before .before .before .args in
+    let text = c .before .before .step in
+    let h =
+    writes-within (stepText (args .scan) (args .capture .now)) _ _ 150 _ (text .ensures .1, text .ensures .2) (step-short (args .scan) (args .capture .now))
+    (omega arith) in
+    search needs
 
 write-all-requires : tie.Need-write-all-requires
 write-all-requires c κs = search needs

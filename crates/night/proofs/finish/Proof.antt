@@ -18,7 +18,11 @@ part-write-all-start : tie.Need-part-write-all-start
 part-write-all-start c = search needs
 
 part-write-all-end : tie.Need-part-write-all-end
-part-write-all-end c = let h = writes-within (endText (c .before .before .before .before .args .scan)) _ _ 250 _ (c .before .before .finish .ensures) (ending-short (c .before .before .before .before .args .scan .inside) (c .before .before .before .before .args .scan .start) (c .before .before .before .before .args .scan .ok) (c .before .before .before .before .args .scan .refused) (c .before .before .before .before .args .scan .dropped)) (omega arith) in search needs
+part-write-all-end c =
+    let scan = c .before .before .before .before .args .scan in
+    let short = ending-short (scan .inside) (scan .start) (scan .ok) (scan .refused) (scan .dropped) in
+    let h = writes-within (endText scan) _ _ 250 _ (c .before .before .finish .ensures) short (omega arith) in
+    search needs
 
 write-all-requires : tie.Need-write-all-requires
 write-all-requires c κs = search needs

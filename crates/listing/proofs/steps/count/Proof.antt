@@ -24,7 +24,15 @@ wrapping-add-u64-requires-3 : tie.Need-wrapping-add-u64-requires-3
 wrapping-add-u64-requires-3 c κs = search needs
 
 returns : tie.Need-returns
-returns c = rw (c .before .before .before .before .wrapping-add-u64 .ensures, c .before .before .before .before .before .ok .ensures, c .before .before .wrapping-add-u642 .ensures, c .before .before .before .refused .ensures, c .wrapping-add-u643 .ensures, c .before .dropped .ensures)
+returns c =
+    rw (
+      c .before .before .before .before .wrapping-add-u64 .ensures,
+      c .before .before .before .before .before .ok .ensures,
+      c .before .before .wrapping-add-u642 .ensures,
+      c .before .before .before .refused .ensures,
+      c .wrapping-add-u643 .ensures,
+      c .before .dropped .ensures,
+    )
 
 pub count-spec : {M : Type 1} → statement M
 count-spec =

@@ -42,7 +42,11 @@ event-of-requires-2 : tie.Need-event-of-requires-2
 event-of-requires-2 c κs = search needs
 
 returns-2 : tie.Need-returns-2
-returns-2 c = c .event-of2 .ensures ∙ ap readEvent (c .before .examine2 .ensures ∙ ap (λ (l : List ℕ). readFrame l 240) (no-frame (c .before .before .before .before .before .args .capture .now) (c .before .before .before .before .before .args .scan .start) (c .before .before .before .before .before .args .scan .place) (c .before .before .before .if1 .left)))
+returns-2 c =
+    let args = c .before .before .before .before .before .args in
+    c .event-of2 .ensures ∙ ap readEvent
+    (c .before .examine2 .ensures ∙ ap (λ (l : List ℕ). readFrame l 240)
+    (no-frame (args .capture .now) (args .scan .start) (args .scan .place) (c .before .before .before .if1 .left)))
 
 pub read-here-spec : {M : Type 1} → statement M
 read-here-spec =

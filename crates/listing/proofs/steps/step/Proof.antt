@@ -17,7 +17,11 @@ same-length : tie.Need-same-length
 same-length c = search needs
 
 returns-2 : tie.Need-returns-2
-returns-2 c = step-start (c .before .before .before .before .before .before .before .before .before .args .scan) (c .before .before .before .before .before .before .before .before .before .args .capture .now) (c .before .before .before .before .before .before .before .before .before .args .room .now) (c .before .before .before .before .before .before .if1 .left) (c .before .before .opening .result) _ (c .before .before .before .before .if2 .taken) (c .before .before .opening .ensures)
+returns-2 c =
+    let args = c .before .before .before .before .before .before .before .before .before .args in
+    let if1 = c .before .before .before .before .before .before .if1 in
+    step-start (args .scan) (args .capture .now) (args .room .now) (if1 .left) (c .before .before .opening .result) _ (c .before .before .before .before .if2 .taken)
+    (c .before .before .opening .ensures)
 
 shared-slice-read-closes : tie.Need-shared-slice-read-closes
 shared-slice-read-closes c = search needs
@@ -35,13 +39,24 @@ same-length-2 : tie.Need-same-length-2
 same-length-2 c = search needs
 
 returns-3 : tie.Need-returns-3
-returns-3 c = step-end (c .before .before .before .before .before .before .before .before .before .before .before .before .before .args .scan) (c .before .before .before .before .before .before .before .before .before .before .before .before .before .args .capture .now) (c .before .before .before .before .before .before .before .before .before .before .before .before .before .args .room .now) (c .before .before .before .before .before .before .before .before .before .before .if1 .left) (c .before .before .before .before .read-here .result) (c .before .before .tell .result) _ (c .before .before .before .before .before .before .before .before .if2 .left) (sym (c .before .before .before .before .before .before .closes .ensures) ∙ c .before .before .before .before .before .if3 .taken) (c .before .before .before .before .read-here .ensures) (c .before .before .tell .ensures)
+returns-3 c =
+    let args = c .before .before .before .before .before .before .before .before .before .before .before .before .before .args in
+    let if1 = c .before .before .before .before .before .before .before .before .before .before .if1 in
+    let if2 = c .before .before .before .before .before .before .before .before .if2 in
+    let closes = c .before .before .before .before .before .before .closes in
+    let read-here = c .before .before .before .before .read-here in
+    step-end (args .scan) (args .capture .now) (args .room .now) (if1 .left) (read-here .result) (c .before .before .tell .result) _ (if2 .left)
+    (sym (closes .ensures) ∙ c .before .before .before .before .before .if3 .taken) (read-here .ensures) (c .before .before .tell .ensures)
 
 pass-requires : tie.Need-pass-requires
 pass-requires c κs = search needs
 
 returns-4 : tie.Need-returns-4
-returns-4 c = step-other (c .before .before .before .before .before .before .before .before .before .args .scan) (c .before .before .before .before .before .before .before .before .before .args .capture .now) (c .before .before .before .before .before .before .before .before .before .args .room .now) (c .before .before .before .before .before .before .if1 .left) (c .pass .result) (c .before .before .before .before .if2 .left) (sym (c .before .before .closes .ensures) ∙ c .before .if3 .left) (c .pass .ensures)
+returns-4 c =
+    let args = c .before .before .before .before .before .before .before .before .before .args in
+    let if1 = c .before .before .before .before .before .before .if1 in
+    step-other (args .scan) (args .capture .now) (args .room .now) (if1 .left) (c .pass .result) (c .before .before .before .before .if2 .left)
+    (sym (c .before .before .closes .ensures) ∙ c .before .if3 .left) (c .pass .ensures)
 
 pub step-spec : {M : Type 1} → statement M
 step-spec =

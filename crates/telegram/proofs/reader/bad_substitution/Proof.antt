@@ -46,7 +46,11 @@ loop-less : tie.Need-loop-less Inv-loop μ-loop
 loop-less c = search needs
 
 loop-again : tie.Need-loop-again Inv-loop μ-loop
-loop-again c = (omega arith, sym (next _ _ _ (c .before .before .before .before .loop-test .taken) ∙ rw (← c .before .before .bad-after .ensures, c .before .if1 .left)) ∙ c .before .before .before .before .before .loop .inv .1)
+loop-again c = (
+  omega arith,
+  sym (next _ _ _ (c .before .before .before .before .loop-test .taken) ∙ rw (← c .before .before .bad-after .ensures, c .before .if1 .left))
+      ∙ c .before .before .before .before .before .loop .inv .1,
+)
 
 returns-2 : tie.Need-returns-2 Inv-loop μ-loop
 unfolding hasBadSubstitution

@@ -23,10 +23,30 @@ bad-substitution-requires : tie.Need-bad-substitution-requires
 bad-substitution-requires c κs = search needs
 
 returns-3 : tie.Need-returns-3
-returns-3 c = rw (← c .before .before .before .before .before .before .not-framed .ensures, c .before .before .before .before .before .if1 .left, ← c .before .before .before .before .inside .ensures, ← c .before .before .before .stray-end .ensures, c .before .before .if2 .left, ← c .before .bad-substitution .ensures, c .if3 .taken)
+returns-3 c =
+    let not-framed = c .before .before .before .before .before .before .not-framed in
+    rw (
+      ← not-framed .ensures,
+      c .before .before .before .before .before .if1 .left,
+      ← c .before .before .before .before .inside .ensures,
+      ← c .before .before .before .stray-end .ensures,
+      c .before .before .if2 .left,
+      ← c .before .bad-substitution .ensures,
+      c .if3 .taken,
+    )
 
 returns-4 : tie.Need-returns-4
-returns-4 c = rw (← c .before .before .before .before .before .before .not-framed .ensures, c .before .before .before .before .before .if1 .left, ← c .before .before .before .before .inside .ensures, ← c .before .before .before .stray-end .ensures, c .before .before .if2 .left, ← c .before .bad-substitution .ensures, c .if3 .left)
+returns-4 c =
+    let not-framed = c .before .before .before .before .before .before .not-framed in
+    rw (
+      ← not-framed .ensures,
+      c .before .before .before .before .before .if1 .left,
+      ← c .before .before .before .before .inside .ensures,
+      ← c .before .before .before .stray-end .ensures,
+      c .before .before .if2 .left,
+      ← c .before .bad-substitution .ensures,
+      c .if3 .left,
+    )
 
 pub framing-spec : {M : Type 1} → statement M
 framing-spec =

@@ -24,7 +24,10 @@ judge-between-requires c κs = search needs
 
 returns : tie.Need-returns
 returns c =
-    let refusal = refused-by-frame (c .before .before .before .before .before .before .args .frame .now) (c .before .before .before .before .before .before .args .room) (c .before .fault .given .0 .0) (judged-unsound _ _ (sym (c .before .fault .given .1) ∙ c .before .before .before .framing .ensures)) in
+    let args = c .before .before .before .before .before .before .args in
+    let refusal =
+    refused-by-frame (args .frame .now) (args .room) (c .before .fault .given .0 .0)
+    (judged-unsound _ _ (sym (c .before .fault .given .1) ∙ c .before .before .before .framing .ensures)) in
     (refused-reading _ _ _ refusal, λ n. absurd (never-both _ _ refusal n))
 
 same-length : tie.Need-same-length
@@ -32,9 +35,13 @@ same-length c = search needs
 
 returns-2 : tie.Need-returns-2
 returns-2 c =
-    let sound = judged-sound _ (sym (c .before .before .before .before .before .enum-told .given .1) ∙ c .before .before .before .before .before .before .before .framing .ensures) in (
-      sound-reading (c .before .before .before .before .before .before .before .before .before .before .args .frame .now) _ _ _ sound (c .before .before .before .before .inside .ensures) (c .before .before .judge-between .ensures .0),
-      λ n. c .before .before .judge-between .ensures .1 ∙ ap (λ (m : List ℕ). over m (c .before .before .before .before .before .before .before .before .before .before .args .message .now)) (sound-message _ _ (c .before .before .before .before .inside .ensures)),
+    let args = c .before .before .before .before .before .before .before .before .before .before .args in
+    let framing = c .before .before .before .before .before .before .before .framing in
+    let inside = c .before .before .before .before .inside in
+    let sound = judged-sound _ (sym (c .before .before .before .before .before .enum-told .given .1) ∙ framing .ensures) in (
+      sound-reading (args .frame .now) _ _ _ sound (inside .ensures) (c .before .before .judge-between .ensures .0),
+      λ n. c .before .before .judge-between .ensures .1
+          ∙ ap (λ (m : List ℕ). over m (args .message .now)) (sound-message _ _ (inside .ensures)),
     )
 
 pub judge-spec : {M : Type 1} → statement M

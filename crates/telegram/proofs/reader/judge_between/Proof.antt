@@ -26,22 +26,46 @@ part-judge-message-start : tie.Need-part-judge-message-start
 part-judge-message-start c = search needs
 
 part-judge-message-end : tie.Need-part-judge-message-end
-part-judge-message-end c = let fits = sound-sized (c .before .before .before .before .before .before .restore .result) (c .before .before .before .before .before .before .before .before .before .before .args .room) (judged-sound _ (sym (c .before .enum-told .given .1) ∙ c .before .before .before .sized .ensures)) in let long : length (c .before .before .before .before .before .before .restore .last .1 .0) ≡ 246 = ap length (c .before .before .before .before .before .before .restore .ensures .1) ∙ length-over _ _ ∙ c .before .before .before .before .before .before .before .before .before .before .pre in search needs
+part-judge-message-end c =
+    let args = c .before .before .before .before .before .before .before .before .before .before .args in
+    let pre = c .before .before .before .before .before .before .before .before .before .before .pre in
+    let restore = c .before .before .before .before .before .before .restore in
+    let fits = sound-sized (restore .result) (args .room) (judged-sound _ (sym (c .before .enum-told .given .1) ∙ c .before .before .before .sized .ensures)) in
+    let long : length (restore .last .1 .0) ≡ 246 = ap length (restore .ensures .1) ∙ length-over _ _ ∙ pre in
+    search needs
 
 judge-message-requires : tie.Need-judge-message-requires
-judge-message-requires c κs = let fits = sound-sized (c .before .before .before .before .before .before .before .restore .result) (c .before .before .before .before .before .before .before .before .before .before .before .args .room) (judged-sound _ (sym (c .before .before .enum-told .given .1) ∙ c .before .before .before .before .sized .ensures)) in let long : length (c .before .before .before .before .before .before .before .restore .last .1 .0) ≡ 246 = ap length (c .before .before .before .before .before .before .before .restore .ensures .1) ∙ length-over _ _ ∙ c .before .before .before .before .before .before .before .before .before .before .before .pre in rw (length-take) (omega arith)
+judge-message-requires c κs =
+    let args = c .before .before .before .before .before .before .before .before .before .before .before .args in
+    let pre = c .before .before .before .before .before .before .before .before .before .before .before .pre in
+    let restore = c .before .before .before .before .before .before .before .restore in
+    let fits =
+    sound-sized (restore .result) (args .room) (judged-sound _ (sym (c .before .before .enum-told .given .1) ∙ c .before .before .before .before .sized .ensures)) in
+    let long : length (restore .last .1 .0) ≡ 246 = ap length (restore .ensures .1) ∙ length-over _ _ ∙ pre in
+    rw (length-take) (omega arith)
 
 same-length : tie.Need-same-length
 same-length c = search needs
 
 returns : tie.Need-returns
-returns c = (refused-by-length _ _ _ _ (c .before .before .before .before .before .before .restore .ensures .0) (sym (c .before .fault .given .1) ∙ c .before .before .before .sized .ensures), c .before .before .before .before .before .before .restore .ensures .1)
+returns c =
+    let restore = c .before .before .before .before .before .before .restore in
+    (refused-by-length _ _ _ _ (restore .ensures .0) (sym (c .before .fault .given .1) ∙ c .before .before .before .sized .ensures), restore .ensures .1)
 
 same-length-2 : tie.Need-same-length-2
 same-length-2 c = search needs
 
 returns-2 : tie.Need-returns-2
-returns-2 c = let fits = sound-sized (c .before .before .before .before .before .before .before .before .restore .result) (c .before .before .before .before .before .before .before .before .before .before .before .before .args .room) (judged-sound _ (sym (c .before .before .before .enum-told .given .1) ∙ c .before .before .before .before .before .sized .ensures)) in (sound-length _ _ _ _ _ (c .before .before .before .before .before .before .before .before .restore .ensures .0) (whole-part _ _ _ _ (c .before .before .before .before .before .before .before .before .restore .ensures .0) (c .before .before .before .before .before .before .before .before .restore .ensures .1) (omega (arith, c .before .before .before .before .before .before .before .before .before .before .before .before .pre, c .before .before .before .before .before .before .before .before .restore .ensures .0))) (sym (c .before .before .before .enum-told .given .1) ∙ c .before .before .before .before .before .sized .ensures) (c .judge-message .ensures), c .before .before .before .before .before .before .before .before .restore .ensures .1)
+returns-2 c =
+    let args = c .before .before .before .before .before .before .before .before .before .before .before .before .args in
+    let pre = c .before .before .before .before .before .before .before .before .before .before .before .before .pre in
+    let restore = c .before .before .before .before .before .before .before .before .restore in
+    let sized = c .before .before .before .before .before .sized in
+    let fits = sound-sized (restore .result) (args .room) (judged-sound _ (sym (c .before .before .before .enum-told .given .1) ∙ sized .ensures)) in (
+      sound-length _ _ _ _ _ (restore .ensures .0) (whole-part _ _ _ _ (restore .ensures .0) (restore .ensures .1) (omega (arith, pre, restore .ensures .0)))
+          (sym (c .before .before .before .enum-told .given .1) ∙ sized .ensures) (c .judge-message .ensures),
+      restore .ensures .1,
+    )
 
 pub judge-between-spec : {M : Type 1} → statement M
 judge-between-spec =

@@ -23,11 +23,18 @@ enum-told : tie.Need-enum-told
 enum-told c = search needs
 
 returns : tie.Need-returns
-returns c = (c .before .before .before .judge .ensures .0, rw (reading-refused (c .before .before .before .before .before .before .before .args .frame .now) _ _ (sym (c .before .before .before .judge .ensures .0) ∙ c .enum-told .given .1)))
+returns c =
+    let args = c .before .before .before .before .before .before .before .args in (
+      c .before .before .before .judge .ensures .0,
+      rw (reading-refused (args .frame .now) _ _ (sym (c .before .before .before .judge .ensures .0) ∙ c .enum-told .given .1)),
+    )
 
 add-end : tie.Need-add-end
 add-end c =
-    let a = telegram-facts (c .before .before .before .before .before .before .before .before .before .args .frame .now) (length (c .before .before .before .before .before .before .before .before .before .args .room .now)) _ (sym (c .before .before .before .before .before .judge .ensures .0) ∙ c .before .before .answer .given .1) in
+    let args = c .before .before .before .before .before .before .before .before .before .args in
+    let a =
+    telegram-facts (args .frame .now) (length (args .room .now)) _
+    (sym (c .before .before .before .before .before .judge .ensures .0) ∙ c .before .before .answer .given .1) in
     record { fits = omega arith }
 
 sub-lay-at : tie.Need-sub-lay-at
@@ -38,8 +45,10 @@ part-lay-at-start c = search needs
 
 part-lay-at-end : tie.Need-part-lay-at-end
 part-lay-at-end c =
-    let a = telegram-facts (c .before .before .before .before .before .before .before .before .before .before .args .frame .now) (length (c .before .before .before .before .before .before .before .before .before .before .args .room .now)) _ (sym (c .before .before .before .before .before .before .judge .ensures .0) ∙ c .before .before .before .answer .given .1) in
-    let long : length (c .before .before .before .before .before .before .judge .last .1 .1 .0) ≡ 246 = ap length (c .before .before .before .before .before .before .judge .ensures .1 (a .0)) ∙ length-over _ _ in
+    let args = c .before .before .before .before .before .before .before .before .before .before .args in
+    let judge = c .before .before .before .before .before .before .judge in
+    let a = telegram-facts (args .frame .now) (length (args .room .now)) _ (sym (judge .ensures .0) ∙ c .before .before .before .answer .given .1) in
+    let long : length (judge .last .1 .1 .0) ≡ 246 = ap length (judge .ensures .1 (a .0)) ∙ length-over _ _ in
     search needs
 
 lay-at-requires : tie.Need-lay-at-requires
@@ -50,9 +59,14 @@ same-length c = search needs
 
 returns-2 : tie.Need-returns-2
 returns-2 c =
-    let a = telegram-facts (c .before .before .before .before .before .before .before .before .before .before .before .before .before .before .before .args .frame .now) (length (c .before .before .before .before .before .before .before .before .before .before .before .before .before .before .before .args .room .now)) _ (sym (c .before .before .before .before .before .before .before .before .before .before .before .judge .ensures .0) ∙ c .before .before .before .before .before .before .before .before .answer .given .1) in (
-      sym (c .before .before .before .before .before .before .before .before .answer .given .1) ∙ c .before .before .before .before .before .before .before .before .before .before .before .judge .ensures .0,
-      rw (a .0) (c .before .before .lay-at .ensures ∙ overAt-zero _ _ ∙ ap (λ (l : List ℕ). over l (c .before .before .before .before .before .before .before .before .before .before .before .before .before .before .before .args .room .now)) (data-part _ _ _ _ (a .1) (c .before .before .before .before .before .before .before .before .before .before .before .judge .ensures .1 (a .0)) (a .2) (a .3))),
+    let args = c .before .before .before .before .before .before .before .before .before .before .before .before .before .before .before .args in
+    let judge = c .before .before .before .before .before .before .before .before .before .before .before .judge in
+    let answer = c .before .before .before .before .before .before .before .before .answer in
+    let a = telegram-facts (args .frame .now) (length (args .room .now)) _ (sym (judge .ensures .0) ∙ answer .given .1) in (
+      sym (answer .given .1) ∙ judge .ensures .0,
+      rw (a .0)
+          (c .before .before .lay-at .ensures ∙ overAt-zero _ _ ∙ ap (λ (l : List ℕ). over l (args .room .now))
+          (data-part _ _ _ _ (a .1) (judge .ensures .1 (a .0)) (a .2) (a .3))),
     )
 
 pub read-spec : {M : Type 1} → statement M

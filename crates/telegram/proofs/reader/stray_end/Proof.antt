@@ -2,6 +2,7 @@
 -- Assumes nothing.
 use mathlib.Core.Path.{_≡_, sym, ap, _∙_}
 use mathlib.Core.Bool.{_||_}
+use mathlib.Core.Logic.{⊎-elim}
 use mathlib.Core.List.{List, []}
 use Prim.Native.Nat.{_≤_, _-_, ℕ, _+_, _<_}
 use native.Mathlib.Omega.{arith}
@@ -31,14 +32,13 @@ loop-holds c = search needs
 shared-slice-read-if1 : tie.Need-shared-slice-read-if1 Inv-loop μ-loop
 shared-slice-read-if1 c = search needs
 
-returns : tie.Need-returns Inv-loop μ-loop
-returns c = sym (sym (c .before .before .before .loop .inv .1) ∙ next _ _ (c .before .before .loop-test .taken) ∙ simp (eq-eqb _ _ (c .if1 .taken)))
-
 shared-slice-read-if2 : tie.Need-shared-slice-read-if2 Inv-loop μ-loop
 shared-slice-read-if2 c = search needs
 
-returns-2 : tie.Need-returns-2 Inv-loop μ-loop
-returns-2 c = sym (sym (c .before .before .before .before .before .loop .inv .1) ∙ next _ _ (c .before .before .before .before .loop-test .taken) ∙ simp (ne-eqb _ _ (c .before .before .if1 .left), eq-eqb _ _ (c .if2 .taken)))
+returns : tie.Need-returns Inv-loop μ-loop
+returns c =
+    sym (sym (c .before .before .before .loop .inv .1) ∙ next _ _ (c .before .before .loop-test .taken)
+    ∙ ⊎-elim (λ w. simp (eq-eqb _ _ (w .taken))) (λ w. simp (ne-eqb _ _ (w .0 .left), w .2 .taken)) (c .if1 .came))
 
 add-i : tie.Need-add-i Inv-loop μ-loop
 add-i c = search needs
@@ -47,11 +47,17 @@ loop-less : tie.Need-loop-less Inv-loop μ-loop
 loop-less c = search needs
 
 loop-again : tie.Need-loop-again Inv-loop μ-loop
-loop-again c = (omega arith, sym (next _ _ (c .before .before .before .before .loop-test .taken) ∙ simp (ne-eqb _ _ (c .before .before .if1 .left), ne-eqb _ _ (c .if2 .left))) ∙ c .before .before .before .before .before .loop .inv .1)
+loop-again c =
+    let test = c .before .before .before .before in (
+      omega arith,
+      sym (next _ _ (test .loop-test .taken) ∙ simp (ne-eqb _ _ (c .before .before .if1 .left), c .if2 .left)) ∙ test .before .loop .inv .1,
+    )
 
-returns-3 : tie.Need-returns-3 Inv-loop μ-loop
+returns-2 : tie.Need-returns-2 Inv-loop μ-loop
 unfolding hasStrayEnd
-returns-3 c = let end : drop (c .before .loop .i) (c .before .before .args .bytes .now) ≡ [] = drop-of-length-le _ (c .loop-test .left) in (rw end at (c .before .loop .inv .1))
+returns-2 c =
+    let end : drop (c .before .loop .i) (c .before .before .args .bytes .now) ≡ [] = drop-of-length-le _ (c .loop-test .left) in
+    rw end at (c .before .loop .inv .1)
 
 pub stray-end-spec : {M : Type 1} → statement M
 stray-end-spec =
@@ -61,10 +67,9 @@ stray-end-spec =
     μ-loop
     loop-holds
     shared-slice-read-if1
-    returns
     shared-slice-read-if2
-    returns-2
+    returns
     add-i
     loop-less
     loop-again
-    returns-3)
+    returns-2)

@@ -45,7 +45,12 @@ same-length : tie.Need-same-length
 same-length c = search needs
 
 returns : tie.Need-returns
-returns c = composed _ _ _ _ _ _ _ _ _ _ _ (c .before .before .before .before .before .before .before .before .before .before .before .before .before .before .lay-at .ensures) (c .before .before .before .before .before .before .before .before .before .before .lay-at2 .ensures) refl (c .before .before .before .before .before .remainder .ensures) (c .before .before .lay-at3 .ensures) (omega (arith, c .before .before .before .before .before .before .before .before .before .before .before .before .before .before .before .before .before .before .before .pre .0, c .before .before .before .before .before .before .before .before .before .before .before .before .before .before .before .before .before .before .before .pre .1))
+returns c =
+    let first = c .before .before .before .before .before .before .before .before .before .before .before .before .before .before in
+    let pre = first .before .before .before .before .before .pre in
+    let lay-at2 = c .before .before .before .before .before .before .before .before .before .before .lay-at2 in
+    composed _ _ _ _ _ _ _ _ _ _ _ (first .lay-at .ensures) (lay-at2 .ensures) refl (c .before .before .before .before .before .remainder .ensures)
+    (c .before .before .lay-at3 .ensures) (omega (arith, pre .0, pre .1))
 
 pub compose-spec : {M : Type 1} → statement M
 compose-spec =

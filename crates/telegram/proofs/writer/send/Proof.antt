@@ -10,7 +10,14 @@ substituted-length-requires : tie.Need-substituted-length-requires
 substituted-length-requires c κs = search needs
 
 add-n : tie.Need-add-n
-add-n c = record { fits = omega (arith, substituted-long (c .before .before .before .args .message .now) (c .substituted-length .result) (c .substituted-length .ensures) (c .before .before .before .pre)) }
+add-n c =
+    record {
+      fits = omega (
+        arith,
+        substituted-long (c .before .before .before .args .message .now) (c .substituted-length .result) (c .substituted-length .ensures)
+            (c .before .before .before .pre),
+      );
+    }
 
 returns : tie.Need-returns
 returns c = rw (no-room (c .before .before .before .before .args .message .now) _ _ (c .before .substituted-length .ensures) (c .if1 .taken)) (refl, refl)
@@ -37,7 +44,14 @@ same-length : tie.Need-same-length
 same-length c = search needs
 
 returns-2 : tie.Need-returns-2
-returns-2 c = rw (with-room (c .before .before .before .before .before .before .before .before .before .before .before .before .before .before .before .before .before .before .args .message .now) _ _ (c .before .before .before .before .before .before .before .before .before .before .before .before .before .before .before .substituted-length .ensures) (c .before .before .before .before .before .before .before .before .before .before .before .before .before .before .if1 .left), length-framed, c .before .before .before .before .before .before .before .before .before .before .before .before .before .before .before .substituted-length .ensures) (refl, sent _ _ _ _ _ _ (c .before .before .before .before .before .before .before .before .before .before .before .before .before .before .before .substituted-length .ensures) (c .before .before .before .before .before .before .before .before .before .before .before .lay-at .ensures) (c .before .before .before .before .before .before .before .substitute-at .ensures) (c .before .before .lay-at2 .ensures))
+returns-2 c =
+    let lay-at = c .before .before .before .before .before .before .before .before .before .before .before .lay-at in
+    let test = c .before .before .before .before .before .before .before .before .before .before .before .before .before .before in
+    let substituted-length = test .before .substituted-length in
+    let args = test .before .before .before .before .args in
+    let substitute-at = c .before .before .before .before .before .before .before .substitute-at in
+    rw (with-room (args .message .now) _ _ (substituted-length .ensures) (test .if1 .left), length-framed, substituted-length .ensures)
+    (refl, sent _ _ _ _ _ _ (substituted-length .ensures) (lay-at .ensures) (substitute-at .ensures) (c .before .before .lay-at2 .ensures))
 
 pub send-spec : {M : Type 1} → statement M
 send-spec =

@@ -1,8 +1,10 @@
 use mathlib.Core.Path.{refl, _≡_, sym}
-use Prim.Native.Nat.{_+_}
+use mathlib.Core.List.{List}
+use mathlib.Core.Logic.{⊎-elim}
+use Prim.Native.Nat.{ℕ, _+_}
 use native.Mathlib.Omega.{arith}
 use borrow.Author.Needs.{needs}
-use borrow.Author.Tests.{lt-ltb, le-ltb, eq-eqb, ne-eqb}
+use borrow.Author.Tests.{lt-ltb, le-ltb, eq-eqb, ne-eqb, eqb-false}
 use lib.ListN.{length}
 use Rattle.telegram.proofs.writer.write.Statement.{statement}
 use Rattle.telegram.specs.Write.{writeRefusal, messageFor}
@@ -16,15 +18,15 @@ returns c = simp (lt-ltb _ _ (c .if1 .taken)) (refl, refl)
 
 returns-2 : tie.Need-returns-2
 unfolding writeRefusal
-returns-2 c = simp (le-ltb _ _ (c .before .if1 .left), eq-eqb _ _ (c .if2 .taken)) (refl, refl)
+returns-2 c =
+    ⊎-elim (λ w. simp (le-ltb _ _ (c .before .if1 .left), eq-eqb _ _ (w .taken)) (refl, refl))
+    (λ w. simp (le-ltb _ _ (c .before .if1 .left), ne-eqb _ _ (w .0 .left), w .1 .taken) (refl, refl)) (c .if2 .came)
 
 returns-3 : tie.Need-returns-3
 unfolding writeRefusal
-returns-3 c = simp (le-ltb _ _ (c .before .before .if1 .left), ne-eqb _ _ (c .before .if2 .left), eq-eqb _ _ (c .if3 .taken)) (refl, refl)
-
-returns-4 : tie.Need-returns-4
-unfolding writeRefusal
-returns-4 c = simp (le-ltb _ _ (c .before .before .before .if1 .left), ne-eqb _ _ (c .before .before .if2 .left), ne-eqb _ _ (c .before .if3 .left), lt-ltb _ _ (c .if4 .taken)) (refl, refl)
+returns-3 c =
+    let two = c .before .before in
+    simp (le-ltb _ _ (two .before .if1 .left), ne-eqb _ _ (two .if2 .left), c .before .if3 .left, lt-ltb _ _ (c .if4 .taken)) (refl, refl)
 
 slice-aggregate-compose : tie.Need-slice-aggregate-compose
 slice-aggregate-compose c = search needs
@@ -50,11 +52,16 @@ send-requires c κs = search needs
 same-length : tie.Need-same-length
 same-length c = search needs
 
-returns-5 : tie.Need-returns-5
-returns-5 c =
-    let long : length (messageFor (c .before .before .before .before .before .before .before .before .before .before .before .before .before .before .before .args .destination) (c .before .before .before .before .before .before .before .before .before .before .before .before .before .before .before .args .source) (c .before .before .before .before .before .before .before .before .before .before .before .before .before .before .before .args .sort) (c .before .before .before .before .before .before .before .before .before .before .before .before .before .before .before .args .register) (c .before .before .before .before .before .before .before .before .before .before .before .before .before .before .before .args .«data» .now)) ≡ length (c .before .before .before .before .before .before .before .before .before .before .before .before .before .before .before .args .«data» .now) + 6 = length-messageFor _ _ _ _ _ in
-    let part = whole-part (messageFor (c .before .before .before .before .before .before .before .before .before .before .before .before .before .before .before .args .destination) (c .before .before .before .before .before .before .before .before .before .before .before .before .before .before .before .args .source) (c .before .before .before .before .before .before .before .before .before .before .before .before .before .before .before .args .sort) (c .before .before .before .before .before .before .before .before .before .before .before .before .before .before .before .args .register) (c .before .before .before .before .before .before .before .before .before .before .before .before .before .before .before .args .«data» .now)) _ _ _ (sym long) (c .before .before .before .before .before .before .before .compose .ensures) (omega arith) in
-    rw (write-sends _ _ _ _ _ _ _ (c .before .before .before .before .before .before .before .before .before .before .before .before .if1 .left) (c .before .before .before .before .before .before .before .before .before .before .before .if2 .left) (c .before .before .before .before .before .before .before .before .before .before .if3 .left) (c .before .before .before .before .before .before .before .before .before .if4 .left) part, ← part) (c .before .before .send .ensures)
+returns-4 : tie.Need-returns-4
+returns-4 c =
+    let four = c .before .before .before .before .before .before .before .before .before in
+    let two = four .before .before in
+    let args = two .before .before .before .before .args in
+    let message : List ℕ = messageFor (args .destination) (args .source) (args .sort) (args .register) (args .«data» .now) in
+    let long : length message ≡ length (args .«data» .now) + 6 = length-messageFor _ _ _ _ _ in
+    let part = whole-part message _ _ _ (sym long) (c .before .before .before .before .before .before .before .compose .ensures) (omega arith) in
+    rw (write-sends _ _ _ _ _ _ _ (two .before .if1 .left) (two .if2 .left) (eqb-false (args .source) 0 (four .before .if3 .left)) (four .if4 .left) part, ← part)
+    (c .before .before .send .ensures)
 
 pub write-spec : {M : Type 1} → statement M
 write-spec =
@@ -63,7 +70,6 @@ write-spec =
     returns
     returns-2
     returns-3
-    returns-4
     slice-aggregate-compose
     compose-requires
     add-n
@@ -72,4 +78,4 @@ write-spec =
     part-send-end
     send-requires
     same-length
-    returns-5)
+    returns-4)
