@@ -1,14 +1,20 @@
 /* Kamzhor for C: the remainder, the frame reader and the value reader of the Interbus telegram.
  *
- * Link with libkamzhor.a (x86-64 Linux). The library keeps no state, takes no memory and holds no lock: any number of
- * threads may call it at once, as long as no two of them share a buffer that one of them lends as room.
+ * Link with libkamzhor.a, which `rt staticlib kamzhor` writes to target/staticlib (x86-64 Linux):
+ *
+ *     cc -I include host.c target/staticlib/libkamzhor.a -o host
+ *
+ * The library keeps no state, takes no memory and holds no lock: any number of threads may call it at once, as long as no
+ * two of them share a buffer that one of them lends as room. A call needs under 1 KiB of stack.
  *
  * Memory: every pointer comes with its length, in bytes. What is lent stays the caller's; the library reads and writes
  * it during the call only, never past its length. A null pointer with length 0 is an empty string of bytes.
  *
- * Two things nobody checks, so the caller must see to them:
+ * Four things nobody checks, so the caller must see to them:
  *   - lengths are true: that many bytes can be read there, and in a room also be written;
- *   - a frame and the room that is lent with it do not overlap.
+ *   - every length is below 2^63;
+ *   - a frame and the room that is lent with it do not overlap;
+ *   - nobody else changes lent bytes during the call.
  *
  *     uint8_t room[KAMZHOR_MOST_DATA];
  *     struct kamzhor_frame t = kamzhor_read_frame(frame, length, room, sizeof room);

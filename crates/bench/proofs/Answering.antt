@@ -16,7 +16,7 @@ use Rattle.frame.specs.Frame.{messageOf}
 use Rattle.rows.proofs.Laws.{done-exactly, clash}
 use Rattle.telegram.proofs.Judge.{reading-refused, reading-telegram, telegram-facts, whole-part}
 use Rattle.telegram.proofs.Laws.{accepted-framed}
-use Rattle.telegram.specs.Read.{readRows, readRefusal, roomAfter, HasZeroAddress, fieldsOf, dataOf, readFrame, whyNot}
+use Rattle.telegram.specs.Read.{readRows, readRefusal, roomAfter, HasZeroAddress, fieldsOf, dataOf, readFrame, whyNot, fieldsIn, dataIn}
 use Rattle.telegram.specs.Write.{telegramFor, Writes, writeRefusal, writeAnswer}
 use Rattle.telegram.specs.declared.Writing.{Writing}
 use Rattle.telegram.specs.declared.Reading.{Reading}
@@ -25,7 +25,7 @@ use Rattle.values.proofs.Bytes.{length-bytesOf}
 use Rattle.values.specs.Values.{bytesOf}
 use Rattle.telegram.specs.declared.Fields.{Fields}
 use Rattle.lent.specs.Lent.{over}
-use Rattle.deeds.proofs.Laws.{Small}
+use Rattle.deeds.specs.Deeds.{Small}
 use Rattle.bench.proofs.Deeds.{deed-small}
 use Rattle.bench.specs.Take.{deedOf, replyFor, replyOf, isAnswer, requestRefusal, roomRefusal, takeRefusal, doneTo, Answers, Requests, Takes}
 use Rattle.bench.specs.declared.Fault.the-variants.{NoRoom, Unread, OtherAddress, NotARequest}
@@ -68,21 +68,27 @@ module _ (bench : Bench) (t : Fields) (deed : Deed) (hs : t .source ≢ 0) (ha :
   unfolding writeRefusal
   by-room = rw (le-ltb 240 (length bytes) few, ne-eqb (t .source) 0 hs, ne-eqb (bench .address) 0 ha, le-ltb 9 (deed .sort) (small .0), is-reply)
 
+  told : (w : Writing) → Wrote w
+      → (w ≡ writeAnswer (cond (ltb (length room) (length reply)) (some unwritten.NoRoom) none) (length reply))
+      × (room′ ≡ roomAfter (cond (ltb (length room) (length reply)) (some unwritten.NoRoom) none) reply room)
+  told w wrote = ((rw (by-room, is-reply) at (wrote .0)), (rw (by-room, is-reply) at (wrote .1)))
+
+  abbrev Answered-so : Bool → AfterTake → Type 0
+  Answered-so short r = Answers (cond short (some NoRoom) none) bench (doneTo bench (t .register) deed) reply room r room′
+
   pub no-room : (w : Writing) (f : Unwritten) (r : AfterTake) → Wrote w → w ≡ writing.Refused f → (r .answer ≡ Silent NoRoom) × (r .bench ≡ bench) → Replied r
-  no-room w f r wrote is-w g = go (ltb (length room) (length reply)) (sym is-w ∙ (rw (by-room, is-reply) at (wrote .0))) (rw (by-room, is-reply) at (wrote .1))
+  no-room w f r wrote is-w g = go (ltb (length room) (length reply)) (sym is-w ∙ told w wrote .0) (told w wrote .1)
     where
       go : (b : Bool) → writing.Refused f ≡ writeAnswer (cond b (some unwritten.NoRoom) none) (length reply)
-          → room′ ≡ roomAfter (cond b (some unwritten.NoRoom) none) reply room
-          → Answers (cond b (some NoRoom) none) bench (doneTo bench (t .register) deed) reply room r room′
+          → room′ ≡ roomAfter (cond b (some unwritten.NoRoom) none) reply room → Answered-so b r
       go true a e = (g .0, g .1, e)
       go false a e = clash (cc)
 
   pub with-room : (w : Writing) (n : ℕ) (r : AfterTake) → Wrote w → w ≡ writing.Written n → (r .answer ≡ Answered n) × (r .bench ≡ doneTo bench (t .register) deed) → Replied r
-  with-room w n r wrote is-w g = go (ltb (length room) (length reply)) (sym is-w ∙ (rw (by-room, is-reply) at (wrote .0))) (rw (by-room, is-reply) at (wrote .1))
+  with-room w n r wrote is-w g = go (ltb (length room) (length reply)) (sym is-w ∙ told w wrote .0) (told w wrote .1)
     where
       go : (b : Bool) → writing.Written n ≡ writeAnswer (cond b (some unwritten.NoRoom) none) (length reply)
-          → room′ ≡ roomAfter (cond b (some unwritten.NoRoom) none) reply room
-          → Answers (cond b (some NoRoom) none) bench (doneTo bench (t .register) deed) reply room r room′
+          → room′ ≡ roomAfter (cond b (some unwritten.NoRoom) none) reply room → Answered-so b r
       go true a e = clash (cc)
       go false a e = (g .0 ∙ (cc), g .1, e)
 
@@ -137,7 +143,7 @@ module _ (frame : List ℕ) (t : Fields) (read : readFrame frame 240 ≡ reading
   sizes : (readRefusal frame 240 ≡ none) × (t .size ≡ length (messageOf frame) - 6) × (6 ≤ length (messageOf frame)) × (length (messageOf frame) ≤ 246)
   sizes = telegram-facts frame 240 t read
 
-  pub data-size : t .size ≡ length (dataOf (messageOf frame))
+  pub data-size : t .size ≡ length (dataIn frame)
   unfolding dataOf
   data-size =
       sizes .1
@@ -146,22 +152,22 @@ module _ (frame : List ℕ) (t : Fields) (read : readFrame frame 240 ≡ reading
   pub size-fits : t .size ≤ 240
   size-fits = omega (arith, sizes .1, sizes .3)
 
-  pub data-read : (d last : List ℕ) → length d ≡ 240 → last ≡ roomAfter (readRefusal frame 240) (dataOf (messageOf frame)) d → take (t .size - 0) last ≡ dataOf (messageOf frame)
+  pub data-read : (d last : List ℕ) → length d ≡ 240 → last ≡ roomAfter (readRefusal frame 240) (dataIn frame) d → take (t .size - 0) last ≡ dataIn frame
   data-read d last many e =
-      whole-part (dataOf (messageOf frame)) d last (t .size) data-size (rw accepted at e) (omega (arith, data-size, size-fits))
+      whole-part (dataIn frame) d last (t .size) data-size (rw accepted at e) (omega (arith, data-size, size-fits))
 
   -- "Address 0 is refused at either end."
   pub addressed : (t .destination ≢ 0) × (t .source ≢ 0)
   unfolding fieldsOf readRows HasZeroAddress
   addressed =
-      let is : t ≡ fieldsOf (messageOf frame) = reading-telegram frame 240 t read .1 in
+      let is : t ≡ fieldsIn frame = reading-telegram frame 240 t read .1 in
       let no = done-exactly (readRows frame 240) (readRefusal frame 240) (read-ranked frame 240) .0 accepted in
       let framed-so = accepted-framed frame 240 t read in (
         λ z. no .1 .1 .1 .1 .1 .1 .1 .0 (messageOf frame, framed-so, inl (sym (ap (λ (u : Fields). u .destination) is) ∙ z)),
         λ z. no .1 .1 .1 .1 .1 .1 .1 .0 (messageOf frame, framed-so, inr (sym (ap (λ (u : Fields). u .source) is) ∙ z)),
       )
 
-  pub taken : (bench : Bench) (bytes room room′ : List ℕ) (r : AfterTake) → bytes ≡ dataOf (messageOf frame)
+  pub taken : (bench : Bench) (bytes room room′ : List ℕ) (r : AfterTake) → bytes ≡ dataIn frame
       → Requests bench t bytes room r room′ → Takes bench frame room r room′
   unfolding takeRefusal
   taken bench bytes room room′ r b g = rw accepted (rw (b, reading-telegram frame 240 t read .1) at g)

@@ -2,11 +2,11 @@
 -- Assumes nothing.
 use Rattle.deeds.specs.Deeds.{nack, heldDeed}
 use Rattle.deeds.proofs.Laws.{deed-fits}
-use Rattle.rows.proofs.Laws.{told-true, Decides, clash}
+use Rattle.rows.proofs.Laws.{told-true, clash}
 use mathlib.Core.Path.{_≡_, refl, sym, ap, _∙_}
 use mathlib.Core.Bool.{Bool, true, false, cond}
 use mathlib.Core.List.{List, [], _∷_}
-use mathlib.Core.Logic.{_≢_, inr}
+use mathlib.Core.Logic.{_≢_}
 use mathlib.Core.Option.{Option, some, none}
 use Prim.Native.Nat.{ℕ, _-_, _*_, _^_, _≤_, _<_}
 use native.Mathlib.Omega.{arith}
@@ -20,19 +20,19 @@ use Rattle.first.proofs.Laws.{ended, first-same}
 use Rattle.frame.specs.Frame.{AllBytes, messageOf}
 use Rattle.rows.specs.Rows.{Ranked}
 use Rattle.telegram.proofs.Laws.{all-at, all-message}
-use Rattle.telegram.specs.Read.{fieldsOf, dataOf}
+use Rattle.telegram.specs.Read.{dataOf, fieldsIn, dataIn}
 use Rattle.values.proofs.Bytes.{bytes-take, bytes-drop}
-use Rattle.values.proofs.Refusals.{decides-fits}
-use Rattle.values.proofs.Sized.{size-of-kind, stored-back}
-use Rattle.values.specs.Values.{sizeOf, isSigned, storedAt, Bytes, Unfit}
+use Rattle.values.proofs.Laws.{stored-means}
+use Rattle.values.specs.Values.{sizeOf, storedAt, Bytes}
 use Rattle.values.specs.declared.Value.{Value}
-use Rattle.bench.specs.Register.{Held, noRegister, emptyBench, registerAt, heldCount, placeOf, isHeld, withValue}
-use Rattle.bench.specs.Build.{Sets, buildAnswer, buildBench, IsNotAModule, makeRows, makeRefusal, Makes, IsWrongKind, IsWrongRights, IsThere, IsFull, addRows, addRefusal, withRegister, Adds, IsNotHeld, IsUnfit, setRows, setRefusal}
+use Rattle.bench.specs.Register.{Held, noRegister, emptyBench, registerAt, heldCount, placeOf, named, isHeld, withValue}
+use Rattle.bench.specs.Build.{buildAnswer, buildBench, IsNotAModule, makeRows, makeRefusal, Makes}
+use Rattle.bench.specs.Build.{IsWrongKind, IsWrongRights, IsThere, IsFull, addRows, addRefusal, withRegister, Adds, setRefusal, Sets}
 use Rattle.bench.specs.declared.Building.the-variants.{Done}
-use Rattle.bench.specs.Sound.{toAdd, toSet, toTake, Right, Sound, Call, Calls, AfterCalls}
-use Rattle.bench.proofs.Laws.{decides-held, make-ranked, add-ranked, set-ranked}
-use Rattle.bench.proofs.Rules.{named}
-use Rattle.bench.specs.Take.{deedOf, takeRefusal, doneTo, takeBench, Takes}
+use Rattle.bench.specs.Sound.{toAdd, toSet, toTake, Right, Sound, Call, Calls, AfterCalls, BytesOnly}
+use Rattle.bench.proofs.Laws.{decides-held, make-ranked, add-ranked}
+use Rattle.bench.proofs.Refusals.{set-done-so}
+use Rattle.bench.specs.Take.{deedOf, replyOf, takeRefusal, takeAnswer, doneTo, takeBench, takeRoom, Takes}
 use Rattle.deeds.specs.declared.Register.{Register}
 use Rattle.bench.specs.declared.Bench.{Bench}
 use Rattle.bench.specs.declared.Fault.{Fault}
@@ -206,31 +206,19 @@ module _ (address : ℕ) (bench : Bench) (s : Sound address bench) where
   found-right number h = s .each (placeOf bench number) (omega (arith, held-place bench number h .0))
 
   pub set-sound : (number : ℕ) (value : Value) {r : AfterBuild} → Sets bench number value r → Sound address (r .bench)
-  unfolding setRows IsNotHeld IsUnfit Unfit
-  set-sound number value p = go (setRefusal bench number value) (set-ranked bench number value) (p .1)
+  set-sound number value p = go (setRefusal bench number value) refl (p .1)
     where
-      not-not : {b : Bool} {P : Type 0} → Decides b P → ((P → ⊥) → ⊥) → b ≡ true
-      not-not {b} {P} d n = by b d
-        where
-          by : (t : Bool) → Decides t P → t ≡ true
-          by true d = refl
-          by false d = absurd (n (d .not-so refl))
-
-      go : (o : Option Fault) {b : Bench} → Ranked (setRows bench number value) o
+      go : (o : Option Fault) {b : Bench} → setRefusal bench number value ≡ o
           → b ≡ buildBench o bench (withValue bench (placeOf bench number) (storedAt (sizeOf (named bench number .kind)) value)) → Sound address b
-      go (some f) k q = rw q s
-      go none k q =
-          let h = not-not (decides-held bench number) (k .0) in
-          let right = found-right number h in
-          let fit = decides-fits (named bench number .kind) value .so (not-not (decides-fits (named bench number .kind) value) (λ n. k .1 .0 (inr n))) in
-          rw q
-          (found-sound number (storedAt (sizeOf (named bench number .kind)) value) h
-          (stored-back (isSigned (named bench number .kind)) (sizeOf (named bench number .kind)) value (size-of-kind (named bench number .kind) (right .least) (right .most) .0) fit .0))
+      go (some f) e q = rw q s
+      go none e q =
+          let so = set-done-so bench number value e in
+          rw q (found-sound number (storedAt (sizeOf (named bench number .kind)) value) (so .0) (stored-means (named bench number .kind) value (so .1) .0))
 
 -- ---- a telegram taken
 
 -- the data of a frame of bytes are bytes
-pub data-bytes : (frame : List ℕ) → AllBytes frame → Bytes (dataOf (messageOf frame))
+pub data-bytes : (frame : List ℕ) → AllBytes frame → Bytes (dataIn frame)
 unfolding dataOf
 data-bytes frame p =
     bytes-take (length (messageOf frame) - 6) (drop 4 (messageOf frame)) (bytes-drop 4 (messageOf frame) (λ i. all-at (messageOf frame) i (all-message frame p)))
@@ -240,20 +228,20 @@ pub take-sound : (address : ℕ) (bench : Bench) → Sound address bench → (fr
 unfolding doneTo deedOf
 take-sound address bench s frame room each p = go (takeRefusal bench frame (length room)) (p .1)
   where
-    held : (b : Bool) → isHeld bench (fieldsOf (messageOf frame) .register) ≡ b
+    held : (b : Bool) → isHeld bench (fieldsIn frame .register) ≡ b
         → Sound address
         (cond b
-        (withValue bench (placeOf bench (fieldsOf (messageOf frame) .register))
-        (cond b (heldDeed (named bench (fieldsOf (messageOf frame) .register)) (fieldsOf (messageOf frame) .sort) (dataOf (messageOf frame))) (nack 0) .value)) bench)
+        (withValue bench (placeOf bench (fieldsIn frame .register))
+        (cond b (heldDeed (named bench (fieldsIn frame .register)) (fieldsIn frame .sort) (dataIn frame)) (nack 0) .value)) bench)
     held false e = s
     held true e =
-        found-sound address bench s (fieldsOf (messageOf frame) .register) _ e
-        (deed-fits _ (found-right address bench s (fieldsOf (messageOf frame) .register) e .value) (fieldsOf (messageOf frame) .sort) (dataOf (messageOf frame)) (data-bytes frame each))
+        found-sound address bench s (fieldsIn frame .register) _ e
+        (deed-fits _ (found-right address bench s (fieldsIn frame .register) e .value) (fieldsIn frame .sort) (dataIn frame) (data-bytes frame each))
 
     go : (o : Option Fault) {b : Bench}
-        → b ≡ takeBench o bench (doneTo bench (fieldsOf (messageOf frame) .register) (deedOf bench (fieldsOf (messageOf frame)) (dataOf (messageOf frame)))) → Sound address b
+        → b ≡ takeBench o bench (doneTo bench (fieldsIn frame .register) (deedOf bench (fieldsIn frame) (dataIn frame))) → Sound address b
     go (some f) q = rw q s
-    go none q = rw q (held (isHeld bench (fieldsOf (messageOf frame) .register)) refl)
+    go none q = rw q (held (isHeld bench (fieldsIn frame .register)) refl)
 
 -- ---- from a made bench and after any calls: at most 32 registers, no register twice, each value fits its kind, the address is as made and 1 to 160
 
@@ -269,3 +257,20 @@ calls-sound address bench s (call ∷ calls) after h = calls-sound address (h .0
 pub made-sound : (address : ℕ) {r : AfterBuild} → Makes address r → r .answer ≡ Done → (calls : List Call) (after : Bench) → AfterCalls (r .bench) calls after
     → Sound address after
 made-sound address p e = calls-sound address _ (make-sound address p e)
+
+-- ---- "Any bytes, any numbers, any order of calls get an answer."
+
+pub any-calls : (bench : Bench) (calls : List Call) → BytesOnly calls → (after : Bench) × AfterCalls bench calls after
+any-calls bench [] bytes = (bench, refl)
+any-calls bench (toAdd number kind rights ∷ calls) bytes =
+    let rest = any-calls (buildBench (addRefusal bench number kind rights) bench (withRegister bench number kind rights)) calls bytes in
+    (rest .0, (_, (record { bench = _; answer = buildAnswer (addRefusal bench number kind rights) }, (refl, refl), refl), rest .1))
+any-calls bench (toSet number value ∷ calls) bytes =
+    let rest = any-calls
+    (buildBench (setRefusal bench number value) bench (withValue bench (placeOf bench number) (storedAt (sizeOf (named bench number .kind)) value))) calls bytes in
+    (rest .0, (_, (record { bench = _; answer = buildAnswer (setRefusal bench number value) }, (refl, refl), refl), rest .1))
+any-calls bench (toTake frame room ∷ calls) bytes =
+    let refusal = takeRefusal bench frame (length room) in
+    let reply = replyOf bench (fieldsIn frame) (dataIn frame) in
+    let rest = any-calls (takeBench refusal bench (doneTo bench (fieldsIn frame .register) (deedOf bench (fieldsIn frame) (dataIn frame)))) calls (bytes .1) in
+    (rest .0, (_, (record { bench = _; answer = takeAnswer refusal reply }, takeRoom refusal reply room, bytes .0, (refl, refl, refl), refl), rest .1))

@@ -1,21 +1,25 @@
 -- What is promised of the bench, each law under the sentence of the paper that it keeps. The rules of a request are in Rules.antt, what
 -- every call keeps in Kept.antt.
 -- Assumes nothing.
-use Rattle.rows.proofs.Laws.{decides-and, ranked-append, ranked-up, _otherwise_, Decides, decides-lt, decides-le, decides-eq, decides-not, decides-or, decides-as, ranked, refused-exactly, told-exactly, clash}
-use Rattle.rows.specs.Rows.{passedUp, raised, Row, First, NoRow, Ranked}
+use Rattle.rows.proofs.Settled.{settled, settled-parts}
+use Rattle.rows.specs.Settled.{Settled}
+use Rattle.rows.proofs.Laws.{Decides, decides-lt, decides-le, decides-eq, decides-not, decides-or, decides-and, decides-as}
+use Rattle.rows.proofs.Laws.{ranked, ranked-append, ranked-up, _otherwise_, refused-exactly, numbered, clash}
+use Rattle.rows.specs.Rows.{passedUp, raised, Row, First, Ranked, numbersOf, apart, Numbered}
 use Rattle.telegram.specs.declared.Fault.{Fault as Unreadable}
 use Rattle.telegram.specs.declared.Reading.the-variants.{Telegram}
-use Rattle.telegram.specs.Read.{readRows, readRefusal, IsLong, OverRoom, fieldsOf, dataOf, readFrame}
+use Rattle.telegram.specs.Read.{readRows, readRefusal, IsLong, OverRoom, readFrame, fieldsIn, dataIn}
 use Rattle.telegram.proofs.Ranking.{read-ranked}
 use Rattle.remainder.specs.Remainder.{remainderOf, combined, AlteredNearby}
 use Rattle.remainder.proofs.Laws.{burst-seen, nearby-burst}
-use Rattle.bench.specs.Register.{Held, Numbers, emptyBench, registerAt, heldCount, placeOf, isHeld, withValue, Looks}
-use Rattle.bench.specs.Build.{Sets, buildAnswer, buildBench, IsNotAModule, makeRows, makeTests, makeRefusal, Makes, IsWrongKind, IsWrongRights, IsThere, IsFull, addRows, addTests, addRefusal, withRegister, Adds, IsNotHeld, IsUnfit, setRows, setTests, setRefusal}
-use Rattle.bench.specs.declared.Seen.{Seen}
-use mathlib.Core.Path.{_≡_, refl, sym, ap₂, _∙_}
+use Rattle.bench.specs.Register.{Held, Numbers, faultNumber, emptyBench, registerAt, heldCount, placeOf, named, isHeld, withValue, Looks}
+use Rattle.bench.specs.Build.{buildAnswer, buildTold, buildBench, IsNotAModule, makeRows, makeTests, makeRefusal, Makes}
+use Rattle.bench.specs.Build.{IsWrongKind, IsWrongRights, IsThere, IsFull, addRows, addTests, addRefusal, withRegister, Adds}
+use Rattle.bench.specs.Build.{IsNotHeld, IsUnfit, setRows, setTests, setRefusal, Sets}
+use mathlib.Core.Path.{_≡_, refl, sym, ap, ap₂, _∙_}
 use mathlib.Core.Bool.{Bool, true, false, not, _&&_, true≢false}
-use mathlib.Core.List.{List}
-use mathlib.Core.Logic.{_≢_, _⊎_, inl, inr, ⊎-elim, _↔_}
+use mathlib.Core.List.{List, [], _∷_}
+use mathlib.Core.Logic.{_≢_, _⊎_, inl, inr, ⊎-elim}
 use mathlib.Core.Option.{Option, some, none}
 use Prim.Native.Nat.{ℕ, _≤_}
 use native.Mathlib.Omega.{arith}
@@ -30,14 +34,14 @@ use Rattle.values.specs.Values.{sizeOf, storedAt, NoKind, Unfit}
 use Rattle.telegram.specs.declared.Fields.{Fields}
 use Rattle.values.specs.declared.Value.{Value}
 use Rattle.bench.proofs.Answering.{refused-up}
-use Rattle.bench.specs.Take.{replyOf, IsOtherAddress, IsNotARequest, IsNoRoom, takeRows, silenceRows, takeTests, requestRefusal, takeRefusal, takeAnswer, takeBench, takeRoom, Takes}
+use Rattle.bench.specs.Take.{replyOf, IsOtherAddress, IsNotARequest, IsNoRoom, takeRows, silenceRows, takeTests, requestRefusal, takeRefusal, takeAnswer, takeTold, takeBench, takeRoom, Takes}
 use Rattle.bench.specs.declared.Bench.{Bench}
 use Rattle.bench.specs.declared.Fault.{Fault}
 use Rattle.bench.specs.declared.Fault.the-variants.{Unread}
 use Rattle.bench.specs.declared.Building.{Building}
-use Rattle.bench.specs.declared.Building.the-variants.{Done, Refused}
+use Rattle.bench.specs.declared.Building.the-variants.{Refused}
 use Rattle.bench.specs.declared.Taking.{Taking}
-use Rattle.bench.specs.declared.Taking.the-variants.{Answered, Silent}
+use Rattle.bench.specs.declared.Taking.the-variants.{Silent}
 use Rattle.bench.specs.declared.AfterBuild.{AfterBuild}
 use Rattle.bench.specs.declared.AfterTake.{AfterTake}
 use Rattle.telegram.specs.declared.Fault.the-variants as unread
@@ -93,7 +97,7 @@ unfolding setRows setRefusal IsNotHeld IsUnfit NoKind Unfit
 set-ranked bench number value =
     ranked (setTests bench number value) (setRows bench number value) (
     decides-not (decides-held bench number) otherwise λ n₃₈.
-    decides-one-not (decides-kind (registerAt bench (placeOf bench number) .kind)) (decides-fits (registerAt bench (placeOf bench number) .kind) value) otherwise λ n₄₃.
+    decides-one-not (decides-kind (named bench number .kind)) (decides-fits (named bench number .kind) value) otherwise λ n₄₃.
     tt
     )
 
@@ -114,46 +118,72 @@ request-ranked bench t bytes room =
 pub take-ranked : (bench : Bench) (frame : List ℕ) (room : ℕ) → Ranked (silenceRows bench frame room) (takeRefusal bench frame room)
 unfolding silenceRows takeRefusal
 take-ranked bench frame room =
-    ranked-append (passedUp Unread (readRows frame 240)) (takeRows bench (fieldsOf (messageOf frame)) (dataOf (messageOf frame)) room) (raised Unread (readRefusal frame 240))
-    (requestRefusal bench (fieldsOf (messageOf frame)) (dataOf (messageOf frame)) room) (ranked-up Unread (readRows frame 240) (readRefusal frame 240) (read-ranked frame 240))
-    (λ none-before. request-ranked bench (fieldsOf (messageOf frame)) (dataOf (messageOf frame)) room)
+    ranked-append (passedUp Unread (readRows frame 240)) (takeRows bench (fieldsIn frame) (dataIn frame) room) (raised Unread (readRefusal frame 240))
+    (requestRefusal bench (fieldsIn frame) (dataIn frame) room) (ranked-up Unread (readRows frame 240) (readRefusal frame 240) (read-ranked frame 240))
+    (λ none-before. request-ranked bench (fieldsIn frame) (dataIn frame) room)
 
--- and so of the answers, both ways: `.0` for each number, `.1` for none
-module _ (rs : List (Row Fault)) (o : Option Fault) (r : Ranked rs o) where
-  building-exactly : ((f : Fault) → (buildAnswer o ≡ Refused f) ↔ First rs f) × ((buildAnswer o ≡ Done) ↔ NoRow rs)
-  building-exactly = told-exactly buildAnswer Refused (λ f. refl) (λ f g e. cc) (λ f e. clash (cc)) rs o r
+-- and so of the calls, by the paper's numbers
+building : (rs : List (Row Fault)) (o : Option Fault) → Ranked rs o → (numbers : List ℕ) → numbersOf (passedUp faultNumber rs) ≡ numbers
+    → apart numbers ≡ true → {answer : Building} → answer ≡ buildAnswer o → Numbered (passedUp faultNumber rs) numbers (buildTold answer)
+building rs o p numbers in-order no-two is = numbered faultNumber rs o p numbers in-order no-two _ (ap buildTold is ∙ told o)
+  where
+    told : (o : Option Fault) → buildTold (buildAnswer o) ≡ raised faultNumber o
+    told (some f) = refl
+    told none = refl
 
-pub make-exactly : (address : ℕ) → ((f : Fault) → (buildAnswer (makeRefusal address) ≡ Refused f) ↔ First (makeRows address) f)
-    × ((buildAnswer (makeRefusal address) ≡ Done) ↔ NoRow (makeRows address))
-make-exactly address = building-exactly (makeRows address) (makeRefusal address) (make-ranked address)
+pub make-exactly : (address : ℕ) {r : AfterBuild} → Makes address r
+    → Numbered (passedUp faultNumber (makeRows address)) (34 ∷ []) (buildTold (r .answer))
+unfolding makeRows
+make-exactly address makes = building (makeRows address) (makeRefusal address) (make-ranked address) (34 ∷ []) refl refl (makes .0)
 
-pub add-exactly : (bench : Bench) (number kind rights : ℕ)
-    → ((f : Fault) → (buildAnswer (addRefusal bench number kind rights) ≡ Refused f) ↔ First (addRows bench number kind rights) f)
-    × ((buildAnswer (addRefusal bench number kind rights) ≡ Done) ↔ NoRow (addRows bench number kind rights))
-add-exactly bench number kind rights =
-    building-exactly (addRows bench number kind rights) (addRefusal bench number kind rights) (add-ranked bench number kind rights)
+pub add-exactly : (bench : Bench) (number kind rights : ℕ) {r : AfterBuild} → Adds bench number kind rights r
+    → Numbered (passedUp faultNumber (addRows bench number kind rights)) (30 ∷ 31 ∷ 32 ∷ 33 ∷ []) (buildTold (r .answer))
+unfolding addRows
+add-exactly bench number kind rights adds =
+    building (addRows bench number kind rights) (addRefusal bench number kind rights) (add-ranked bench number kind rights)
+    (30 ∷ 31 ∷ 32 ∷ 33 ∷ []) refl refl (adds .0)
 
-pub set-exactly : (bench : Bench) (number : ℕ) (value : Value)
-    → ((f : Fault) → (buildAnswer (setRefusal bench number value) ≡ Refused f) ↔ First (setRows bench number value) f)
-    × ((buildAnswer (setRefusal bench number value) ≡ Done) ↔ NoRow (setRows bench number value))
-set-exactly bench number value = building-exactly (setRows bench number value) (setRefusal bench number value) (set-ranked bench number value)
+pub set-exactly : (bench : Bench) (number : ℕ) (value : Value) {r : AfterBuild} → Sets bench number value r
+    → Numbered (passedUp faultNumber (setRows bench number value)) (38 ∷ 43 ∷ []) (buildTold (r .answer))
+unfolding setRows
+set-exactly bench number value sets =
+    building (setRows bench number value) (setRefusal bench number value) (set-ranked bench number value) (38 ∷ 43 ∷ []) refl refl (sets .0)
 
-pub take-exactly : (bench : Bench) (frame : List ℕ) (room : ℕ) (reply : List ℕ)
-    → ((f : Fault) → (takeAnswer (takeRefusal bench frame room) reply ≡ Silent f) ↔ First (silenceRows bench frame room) f)
-    × ((takeAnswer (takeRefusal bench frame room) reply ≡ Answered (length reply)) ↔ NoRow (silenceRows bench frame room))
-take-exactly bench frame room reply =
-    told-exactly (λ (o : Option Fault). takeAnswer o reply) Silent (λ f. refl) (λ f g e. cc) (λ f e. clash (cc))
-    (silenceRows bench frame room) (takeRefusal bench frame room) (take-ranked bench frame room)
+-- 6 stands among the reader's rows and never arises: `take-never-6`
+pub take-exactly : (bench : Bench) (frame room : List ℕ) {r : AfterTake} {room′ : List ℕ} → Takes bench frame room r room′
+    → Numbered (passedUp faultNumber (silenceRows bench frame (length room)))
+    (1 ∷ 2 ∷ 3 ∷ 4 ∷ 5 ∷ 6 ∷ 7 ∷ 8 ∷ 9 ∷ 35 ∷ 36 ∷ 37 ∷ []) (takeTold (r .answer))
+unfolding silenceRows readRows takeRows
+take-exactly bench frame room takes =
+    numbered faultNumber (silenceRows bench frame (length room)) (takeRefusal bench frame (length room)) (take-ranked bench frame (length room))
+    (1 ∷ 2 ∷ 3 ∷ 4 ∷ 5 ∷ 6 ∷ 7 ∷ 8 ∷ 9 ∷ 35 ∷ 36 ∷ 37 ∷ []) refl refl _ (ap takeTold (takes .0) ∙ told (takeRefusal bench frame (length room)) _)
+  where
+    told : (o : Option Fault) (reply : List ℕ) → takeTold (takeAnswer o reply) ≡ raised faultNumber o
+    told (some f) reply = refl
+    told none reply = refl
 
 -- ---- "It reads with 240 bytes of room of its own, so number 6 doesn't arise."
+
+-- a row that gives another refusal is not the first that holds, and one that does not hold is passed
+skip : {P Q : Type 0} {f g : Unreadable} → (P × (f ≡ g)) ⊎ ((P → ⊥) × Q) → (f ≡ g → ⊥) → (P → ⊥) × Q
+skip s n = ⊎-elim (λ a. absurd (n (a .1))) (λ a. a) s
+
+passed : {P Q R : Type 0} → (P × R) ⊎ ((P → ⊥) × Q) → (P → ⊥) → Q
+passed s n = ⊎-elim (λ a. absurd (n (a .0))) (λ a. a .1) s
 
 -- where row 6 is the first that holds, the message is not over 246 bytes, and yet has over 240 bytes of data
 pub never-6 : (frame : List ℕ) → readRefusal frame 240 ≡ some unread.NoRoom → ⊥
 unfolding readRows OverRoom IsLong
-never-6 frame e = ⊎-elim (λ n. clash (cc (n .1))) (λ a. ⊎-elim (λ n. clash (cc (n .1))) (λ b. ⊎-elim (λ n. clash (cc (n .1))) (λ c. ⊎-elim (λ n. clash (cc (n .1))) (λ d. ⊎-elim (λ n. clash (cc (n .1))) (λ h. ⊎-elim
-    (λ six. h .0 (six .0 .0, six .0 .1, omega (arith, six .0 .2)))
-    (λ g. ⊎-elim (λ n. clash (cc (n .1))) (λ i. ⊎-elim (λ n. clash (cc (n .1))) (λ j. ⊎-elim (λ n. clash (cc (n .1))) (λ k. k .1) (j .1)) (i .1)) (g .1))
-    (h .1)) (d .1)) (c .1)) (b .1)) (a .1)) first
+never-6 frame e =
+    let past-1 = skip first (λ q. clash (cc)) in
+    let past-2 = skip (past-1 .1) (λ q. clash (cc)) in
+    let past-3 = skip (past-2 .1) (λ q. clash (cc)) in
+    let past-4 = skip (past-3 .1) (λ q. clash (cc)) in
+    let past-5 = skip (past-4 .1) (λ q. clash (cc)) in
+    let past-6 = passed (past-5 .1) (λ h. past-5 .0 (h .0, h .1, omega (arith, h .2))) in
+    let past-7 = skip past-6 (λ q. clash (cc)) in
+    let past-8 = skip (past-7 .1) (λ q. clash (cc)) in
+    skip (past-8 .1) (λ q. clash (cc)) .1
   where
     first : First (readRows frame 240) unread.NoRoom
     first = refused-exactly (readRows frame 240) (readRefusal frame 240) (read-ranked frame 240) unread.NoRoom .0 e
@@ -170,7 +200,7 @@ add-refused bench number kind rights f p e = p .1 ∙ build-stays (addRefusal be
 pub set-refused : (bench : Bench) (number : ℕ) (value : Value) {r : AfterBuild} (f : Fault) → Sets bench number value r → r .answer ≡ Refused f → r .bench ≡ bench
 set-refused bench number value f p e =
     p .1 ∙ build-stays (setRefusal bench number value) bench
-    (withValue bench (placeOf bench number) (storedAt (sizeOf (registerAt bench (placeOf bench number) .kind)) value)) f (sym (p .0) ∙ e)
+    (withValue bench (placeOf bench number) (storedAt (sizeOf (named bench number .kind)) value)) f (sym (p .0) ∙ e)
 
 -- a bench that is not made holds nothing, and no telegram is for it
 pub make-refused : (address : ℕ) {r : AfterBuild} (f : Fault) → Makes address r → r .answer ≡ Refused f → r .bench ≡ emptyBench 0
@@ -181,7 +211,8 @@ pub silent-stays : (bench : Bench) (frame room : List ℕ) {r : AfterTake} {room
     → (r .bench ≡ bench) × (room′ ≡ room)
 silent-stays bench frame room f p e = go (takeRefusal bench frame (length room)) _ _ _ (sym (p .0) ∙ e) (p .1) (p .2)
   where
-    go : (o : Option Fault) (reply y : List ℕ) (after : Bench) {x : List ℕ} {b : Bench} → takeAnswer o reply ≡ Silent f → b ≡ takeBench o bench after → x ≡ takeRoom o reply y → (b ≡ bench) × (x ≡ y)
+    go : (o : Option Fault) (reply y : List ℕ) (after : Bench) {x : List ℕ} {b : Bench} → takeAnswer o reply ≡ Silent f
+        → b ≡ takeBench o bench after → x ≡ takeRoom o reply y → (b ≡ bench) × (x ≡ y)
     go none reply y after a q w = clash (cc)
     go (some g) reply y after a q w = (q, w)
 
@@ -213,26 +244,32 @@ nearby-silent frame size t e m near = altered-silent frame size t e m (near .sam
 
 -- ---- "Show that any two outcomes allowed by it are equal."
 
-pub numbers-once : (f : Fault) {a b : ℕ} → Numbers f a → Numbers f b → a ≡ b
-numbers-once f p q = p ∙ sym q
+-- the call `number` gives the number that the laws tell
+pub number-is : (f : Fault) (r : ℕ) → Numbers f r → r ≡ faultNumber f
+number-is f r p = p
 
-pub looks-once : (bench : Bench) (number : ℕ) {a b : Seen} → Looks bench number a → Looks bench number b → a ≡ b
-looks-once bench number p q = p ∙ sym q
+pub numbers-settled : (f : Fault) → Settled (Numbers f)
+numbers-settled f = settled _
 
-built : {r s : AfterBuild} → r .answer ≡ s .answer → r .bench ≡ s .bench → r ≡ s
-built a b = ap₂ (λ (x : Building) (y : Bench). record { bench = y; answer = x }) a b
+pub looks-settled : (bench : Bench) (number : ℕ) → Settled (Looks bench number)
+looks-settled bench number = settled _
 
-pub makes-once : (address : ℕ) {r s : AfterBuild} → Makes address r → Makes address s → r ≡ s
-makes-once address p q = built (p .0 ∙ sym (q .0)) (p .1 ∙ sym (q .1))
+built-settled : (x : Building) (y : Bench) → Settled {A = AfterBuild} (λ r. (r .answer ≡ x) × (r .bench ≡ y))
+built-settled x y =
+    record {
+      outcome = record { answer = x; bench = y };
+      is-allowed = (refl, refl);
+      only = λ other p. ap₂ (λ (a : Building) (b : Bench). record { answer = a; bench = b }) (p .0) (p .1);
+    }
 
-pub adds-once : (bench : Bench) (number kind rights : ℕ) {r s : AfterBuild} → Adds bench number kind rights r → Adds bench number kind rights s → r ≡ s
-adds-once bench number kind rights p q = built (p .0 ∙ sym (q .0)) (p .1 ∙ sym (q .1))
+pub makes-settled : (address : ℕ) → Settled (Makes address)
+makes-settled address = built-settled _ _
 
-pub sets-once : (bench : Bench) (number : ℕ) (value : Value) {r s : AfterBuild} → Sets bench number value r → Sets bench number value s → r ≡ s
-sets-once bench number value p q = built (p .0 ∙ sym (q .0)) (p .1 ∙ sym (q .1))
+pub adds-settled : (bench : Bench) (number kind rights : ℕ) → Settled (Adds bench number kind rights)
+adds-settled bench number kind rights = built-settled _ _
 
-pub takes-once : (bench : Bench) (frame room : List ℕ) {r s : AfterTake} {x y : List ℕ} → Takes bench frame room r x → Takes bench frame room s y → (r ≡ s) × (x ≡ y)
-takes-once bench frame room p q = (
-  ap₂ (λ (a : Taking) (b : Bench). record { bench = b; answer = a }) (p .0 ∙ sym (q .0)) (p .1 ∙ sym (q .1)),
-  p .2 ∙ sym (q .2),
-)
+pub sets-settled : (bench : Bench) (number : ℕ) (value : Value) → Settled (Sets bench number value)
+sets-settled bench number value = built-settled _ _
+
+pub takes-settled : (bench : Bench) (frame room : List ℕ) → Settled {A = AfterTake × List ℕ} (λ o. Takes bench frame room (o .0) (o .1))
+takes-settled bench frame room = settled-parts (λ (a : Taking) (b : Bench). record { answer = a; bench = b }) (λ r. r .answer) (λ r. r .bench) (λ r. refl) (λ a b. (refl, refl)) _ _ _

@@ -7,3 +7,4 @@ pub mod Rules
 pub mod Kept
 pub mod Written
 pub mod Silence
+pub mod Shown

@@ -1,10 +1,10 @@
 -- The four rules of a telegram for the bench, in the paper's words, and what every reply is.
 -- Assumes nothing.
-use Rattle.deeds.specs.Deeds.{HasRight, nack, ack, datagram, heldDeed}
-use Rattle.deeds.proofs.Laws.{MayRead, MayWrite, MayChange, read-deed, write-deed, set-deed, clear-deed, toggle-deed, other-deed, Small}
+use Rattle.deeds.specs.Deeds.{HasRight, nack, ack, datagram, heldDeed, MayRead, MayWrite, MayChange, Small}
+use Rattle.deeds.proofs.Laws.{read-deed, write-deed, set-deed, clear-deed, toggle-deed, other-deed}
 use Rattle.rows.proofs.Laws.{told-true, told-false, done-exactly}
 use Rattle.telegram.specs.declared.Reading.{Reading}
-use Rattle.telegram.specs.Read.{Reads, fieldsOf, dataOf, readFrame}
+use Rattle.telegram.specs.Read.{Reads, readFrame, fieldsIn, dataIn}
 use mathlib.Core.Path.{_≡_, refl, sym, _∙_}
 use mathlib.Core.Bool.{Bool, true, false, cond}
 use mathlib.Core.List.{List, []}
@@ -13,7 +13,6 @@ use Prim.Native.Nat.{ℕ, _≤_}
 use native.Mathlib.Omega.{arith}
 use lib.ListN.{length, take}
 use lib.Seq.{set-getD}
-use Rattle.frame.specs.Frame.{messageOf}
 use Rattle.lent.specs.Lent.{over}
 use Rattle.telegram.proofs.Judge.{reading-telegram}
 use Rattle.telegram.proofs.Laws.{reads-back}
@@ -25,37 +24,22 @@ use Rattle.telegram.specs.declared.Reading.the-variants.{Telegram}
 use Rattle.bench.proofs.Answering.{wrote-so, addressed}
 use Rattle.bench.proofs.Deeds.{deed-small}
 use Rattle.bench.proofs.Laws.{decides-held, request-ranked}
-use Rattle.bench.specs.Register.{Held, noRegister, registerAt, placeOf, isHeld, withValue}
-use Rattle.bench.specs.Take.{deedOf, replyFor, replyOf, IsOtherAddress, IsNotARequest, IsNoRoom, takeRows, requestRefusal, takeRefusal, doneTo, Takes}
+use Rattle.bench.specs.Register.{Held, noRegister, placeOf, named, isHeld, withValue}
+use Rattle.bench.specs.Take.{deedOf, replyFor, replyOf, IsOtherAddress, IsNotARequest, IsNoRoom, takeRows, requestRefusal, takeRefusal, doneTo, Takes, Answerable, Gives}
 use Rattle.deeds.specs.declared.Register.{Register}
 use Rattle.bench.specs.declared.Bench.{Bench}
 use Rattle.bench.specs.declared.Taking.the-variants.{Answered}
 use Rattle.deeds.specs.declared.Deed.{Deed}
 use Rattle.bench.specs.declared.AfterTake.{AfterTake}
 
--- the register that a number names
-abbrev pub named : Bench → ℕ → Register
-named bench number = registerAt bench (placeOf bench number)
-
--- ---- a telegram that the bench answers
-
--- it was read, it is for this bench, it is a request, and there is room for the reply
-pub record Answerable (bench : Bench) (frame : List ℕ) (t : Fields) (room : ℕ) : Type 0 where
-  pub read : readFrame frame 240 ≡ Telegram t
-  pub ours : t .destination ≡ bench .address
-  pub asks : IsNotARequest t → ⊥
-  pub roomy : length (replyOf bench t (dataOf (messageOf frame))) ≤ room
-
--- the reply goes "to the telegram's source", from the bench's address, with the register, a type and data; the bench is then `after`
-abbrev pub Gives : Bench → Fields → List ℕ → ℕ → List ℕ → Bench → AfterTake → List ℕ → Type 0
-Gives bench t room sort bytes after r room′ =
-    (r .answer ≡ Answered (length (telegramFor (t .source) (bench .address) sort (t .register) bytes)))
-    × (r .bench ≡ after)
-    × (room′ ≡ over (telegramFor (t .source) (bench .address) sort (t .register) bytes) room)
+pub held-deed : (bench : Bench) (t : Fields) (bytes : List ℕ) → Held bench (t .register) → (deed : Deed)
+    → heldDeed (named bench (t .register)) (t .sort) bytes ≡ deed → deedOf bench t bytes ≡ deed
+unfolding deedOf
+held-deed bench t bytes h deed e = rw (told-true (decides-held bench (t .register)) h) e
 
 module _ (bench : Bench) (frame : List ℕ) (t : Fields) (room : List ℕ) (may : Answerable bench frame t (length room)) where
   bytes : List ℕ
-  bytes = dataOf (messageOf frame)
+  bytes = dataIn frame
 
   -- nothing keeps the bench silent
   pub no-refusal : takeRefusal bench frame (length room) ≡ none
@@ -69,18 +53,13 @@ module _ (bench : Bench) (frame : List ℕ) (t : Fields) (room : List ℕ) (may 
 
   module _ {r : AfterTake} {room′ : List ℕ} (takes : Takes bench frame room r room′) where
     -- whatever the deed is, it is done and answered
-    gives : (deed : Deed) (after : Bench) → deedOf bench t (dataOf (messageOf frame)) ≡ deed → doneTo bench (t .register) deed ≡ after
+    gives : (deed : Deed) (after : Bench) → deedOf bench t (dataIn frame) ≡ deed → doneTo bench (t .register) deed ≡ after
         → Gives bench t room (deed .sort) (bytesOf (deed .size) (deed .value)) after r room′
     unfolding replyOf replyFor
     gives deed after d a =
-        let is : t ≡ fieldsOf (messageOf frame) = reading-telegram frame 240 t (may .read) .1 in
+        let is : t ≡ fieldsIn frame = reading-telegram frame 240 t (may .read) .1 in
         let given = rw (no-refusal, ← is, d) at takes in
         (given .0, given .1 ∙ a, given .2)
-
-    held-deed : Held bench (t .register) → (deed : Deed) → heldDeed (named bench (t .register)) (t .sort) (dataOf (messageOf frame)) ≡ deed
-        → deedOf bench t (dataOf (messageOf frame)) ≡ deed
-    unfolding deedOf
-    held-deed h deed e = rw (told-true (decides-held bench (t .register)) h) e
 
     changes : Held bench (t .register) → (deed : Deed) → doneTo bench (t .register) deed ≡ withValue bench (placeOf bench (t .register)) (deed .value)
     unfolding doneTo
@@ -96,44 +75,45 @@ module _ (bench : Bench) (frame : List ℕ) (t : Fields) (room : List ℕ) (may 
 
     module _ (h : Held bench (t .register)) where
       -- "read with the right and no data: a datagram with the value"
-      pub read-rule : MayRead (named bench (t .register)) (t .sort) (dataOf (messageOf frame))
+      pub read-rule : MayRead (named bench (t .register)) (t .sort) (dataIn frame)
           → Gives bench t room 8 (bytesOf (sizeOf (named bench (t .register) .kind)) (named bench (t .register) .value)) bench r room′
-      read-rule m = gives (datagram (named bench (t .register))) bench (held-deed h _ (read-deed _ _ _ m)) (stays _ refl)
+      read-rule m = gives (datagram (named bench (t .register))) bench (held-deed bench t (dataIn frame) h _ (read-deed _ _ _ m)) (stays _ refl)
+
+      acks : (value : ℕ) → heldDeed (named bench (t .register)) (t .sort) (dataIn frame) ≡ ack value
+          → Gives bench t room 3 [] (withValue bench (placeOf bench (t .register)) value) r room′
+      unfolding bytesOf
+      acks value e = gives (ack value) _ (held-deed bench t (dataIn frame) h _ e) (changes h _)
 
       -- "write with the right and exactly the kind's size of data: ack, and the value is those bytes"
-      pub write-rule : MayWrite (named bench (t .register)) (t .sort) (dataOf (messageOf frame))
-          → Gives bench t room 3 [] (withValue bench (placeOf bench (t .register)) (natural (dataOf (messageOf frame)))) r room′
-      unfolding bytesOf
-      write-rule m = gives (ack (natural (dataOf (messageOf frame)))) _ (held-deed h _ (write-deed _ _ _ m)) (changes h _)
+      pub write-rule : MayWrite (named bench (t .register)) (t .sort) (dataIn frame)
+          → Gives bench t room 3 [] (withValue bench (placeOf bench (t .register)) (natural (dataIn frame))) r room′
+      write-rule m = acks _ (write-deed _ _ _ m)
 
       -- "set, clear or toggle with right 4 and that size: ack"
-      module _ (right : HasRight (named bench (t .register)) 4) (size : length (dataOf (messageOf frame)) ≡ sizeOf (named bench (t .register) .kind)) where
+      module _ (right : HasRight (named bench (t .register)) 4) (size : length (dataIn frame) ≡ sizeOf (named bench (t .register) .kind)) where
         pub set-rule : t .sort ≡ 6
             → Gives bench t room 3 []
-            (withValue bench (placeOf bench (t .register)) (setBits (named bench (t .register) .value) (natural (dataOf (messageOf frame))))) r room′
-        unfolding bytesOf
-        set-rule e = gives (ack (setBits (named bench (t .register) .value) (natural (dataOf (messageOf frame))))) _ (held-deed h _ (set-deed _ _ _ right size e)) (changes h _)
+            (withValue bench (placeOf bench (t .register)) (setBits (named bench (t .register) .value) (natural (dataIn frame)))) r room′
+        set-rule e = acks _ (set-deed _ _ _ right size e)
 
         pub clear-rule : t .sort ≡ 7
             → Gives bench t room 3 []
-            (withValue bench (placeOf bench (t .register)) (clearBits (named bench (t .register) .value) (natural (dataOf (messageOf frame))))) r room′
-        unfolding bytesOf
-        clear-rule e = gives (ack (clearBits (named bench (t .register) .value) (natural (dataOf (messageOf frame))))) _ (held-deed h _ (clear-deed _ _ _ right size e)) (changes h _)
+            (withValue bench (placeOf bench (t .register)) (clearBits (named bench (t .register) .value) (natural (dataIn frame)))) r room′
+        clear-rule e = acks _ (clear-deed _ _ _ right size e)
 
         pub toggle-rule : t .sort ≡ 9
             → Gives bench t room 3 []
-            (withValue bench (placeOf bench (t .register)) (toggleBits (named bench (t .register) .value) (natural (dataOf (messageOf frame))))) r room′
-        unfolding bytesOf
-        toggle-rule e = gives (ack (toggleBits (named bench (t .register) .value) (natural (dataOf (messageOf frame))))) _ (held-deed h _ (toggle-deed _ _ _ right size e)) (changes h _)
+            (withValue bench (placeOf bench (t .register)) (toggleBits (named bench (t .register) .value) (natural (dataIn frame)))) r room′
+        toggle-rule e = acks _ (toggle-deed _ _ _ right size e)
 
       -- "anything else [..]: nack, nothing changed"
-      pub nack-rule : (MayRead (named bench (t .register)) (t .sort) (dataOf (messageOf frame)) → ⊥)
-          → (MayWrite (named bench (t .register)) (t .sort) (dataOf (messageOf frame)) → ⊥)
-          → (MayChange (named bench (t .register)) (t .sort) (dataOf (messageOf frame)) → ⊥)
+      pub nack-rule : (MayRead (named bench (t .register)) (t .sort) (dataIn frame) → ⊥)
+          → (MayWrite (named bench (t .register)) (t .sort) (dataIn frame) → ⊥)
+          → (MayChange (named bench (t .register)) (t .sort) (dataIn frame) → ⊥)
           → Gives bench t room 0 [] bench r room′
       unfolding bytesOf
       nack-rule no-read no-write no-change =
-          gives (nack (named bench (t .register) .value)) bench (held-deed h _ (other-deed _ _ _ no-read no-write no-change)) (stays _ refl)
+          gives (nack (named bench (t .register) .value)) bench (held-deed bench t (dataIn frame) h _ (other-deed _ _ _ no-read no-write no-change)) (stays _ refl)
 
     -- "an unknown register included"
     pub unknown-rule : (Held bench (t .register) → ⊥) → Gives bench t room 0 [] bench r room′
@@ -144,18 +124,23 @@ module _ (bench : Bench) (frame : List ℕ) (t : Fields) (room : List ℕ) (may 
 
     -- every reply is a telegram that the reader accepts, from the bench to the asker, with the register
     pub reply-reads : (n : ℕ) → r .answer ≡ Answered n → (buffer : List ℕ) (a : Reading) (buffer′ : List ℕ) → 8 ≤ length buffer → Reads (take n room′) buffer a buffer′
-        → (deed : Deed) → deedOf bench t (dataOf (messageOf frame)) ≡ deed
+        → (deed : Deed) → deedOf bench t (dataIn frame) ≡ deed
         → (a ≡ Telegram (record { destination = t .source; source = bench .address; sort = deed .sort; register = t .register; size = deed .size }))
         × (buffer′ ≡ over (bytesOf (deed .size) (deed .value)) buffer)
     unfolding replyOf replyFor
     reply-reads n e buffer a buffer′ wide reads deed d =
+        let bytes = bytesOf (deed .size) (deed .value) in
         let given = gives deed _ d refl in
-        let small : Small deed = rw d at (deed-small bench t (dataOf (messageOf frame))) in
+        let small : Small deed = rw d at (deed-small bench t (dataIn frame)) in
         let ends = addressed frame t (may .read) in
         let size : length (bytesOf (deed .size) (deed .value)) ≡ deed .size = length-bytesOf (deed .size) (deed .value) in
-        let wrote = wrote-so bench t deed (ends .1) (λ z. ends .0 (may .ours ∙ z)) small (bytesOf (deed .size) (deed .value)) refl room room′ (rw d at (may .roomy)) (given .2) in
-        let same : n ≡ length (telegramFor (t .source) (bench .address) (deed .sort) (t .register) (bytesOf (deed .size) (deed .value))) = answered-same (sym e ∙ given .0) in
-        let back = reads-back (t .source) (bench .address) (deed .sort) (t .register) (bytesOf (deed .size) (deed .value)) room n room′ (rw same wrote) buffer a buffer′ (omega (arith, small .1)) reads in
+        let wrote =
+        wrote-so bench t deed (ends .1) (λ z. ends .0 (may .ours ∙ z)) small bytes refl room room′ (rw d at (may .roomy)) (given .2) in
+        let same : n ≡ length (telegramFor (t .source) (bench .address) (deed .sort) (t .register) (bytesOf (deed .size) (deed .value))) =
+        answered-same (sym e ∙ given .0) in
+        let back =
+        reads-back (t .source) (bench .address) (deed .sort) (t .register) bytes room n room′ (rw same wrote) buffer a buffer′
+        (omega (arith, small .1)) reads in
         rw size at back
       where
         answered-same : {m k : ℕ} → Answered m ≡ Answered k → m ≡ k

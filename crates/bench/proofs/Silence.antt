@@ -8,17 +8,16 @@ use Prim.Native.Nat.{ℕ, _≤_, _<_}
 use native.Mathlib.Omega.{arith}
 use native.Mathlib.Decide.{ℕ-discrete}
 use lib.ListN.{length, take}
-use Rattle.frame.specs.Frame.{messageOf}
 use Rattle.rows.proofs.Laws.{clash, or-none, refused-exactly, done-exactly, raised-none}
 use Rattle.rows.specs.Rows.{First, orLater, raised}
-use Rattle.telegram.specs.Read.{readRefusal, readFrame, fieldsOf, dataOf, Reads}
+use Rattle.telegram.specs.Read.{readRefusal, readFrame, Reads, fieldsIn, dataIn}
 use Rattle.telegram.specs.declared.Fault.{Fault as Unreadable}
 use Rattle.telegram.specs.declared.Fault.the-variants.{NotFramed, StrayEnd, BadSubstitution, ShortMessage, LongMessage, NoRoom, CheckFault, ZeroAddress, UnknownType}
 use Rattle.telegram.specs.declared.Fields.{Fields}
 use Rattle.telegram.specs.declared.Reading.{Reading}
 use Rattle.telegram.specs.declared.Reading.the-variants.{Telegram}
 use Rattle.bench.specs.Register.{faultNumber}
-use Rattle.bench.specs.Take.{IsOtherAddress, IsNoRoom, takeRows, requestRefusal, takeRefusal, takeAnswer, deedOf, Takes}
+use Rattle.bench.specs.Take.{IsOtherAddress, IsNoRoom, takeRows, requestRefusal, takeRefusal, takeAnswer, deedOf, Takes, Answerable, MeansSilence}
 use Rattle.bench.specs.declared.Bench.{Bench}
 use Rattle.bench.specs.declared.Fault.{Fault}
 use Rattle.bench.specs.declared.Fault.the-variants.{Unread}
@@ -26,11 +25,7 @@ use Rattle.bench.specs.declared.Taking.the-variants.{Answered, Silent}
 use Rattle.bench.specs.declared.AfterTake.{AfterTake}
 use Rattle.bench.proofs.Deeds.{deed-reply}
 use Rattle.bench.proofs.Laws.{never-6, request-ranked}
-use Rattle.bench.proofs.Rules.{Answerable, reply-reads}
-
--- "numbers 1 to 5, 7 to 9 and 35 to 37 mean silence"
-abbrev pub MeansSilence : ℕ → Type 0
-MeansSilence n = ((1 ≤ n) × (n ≤ 5)) ⊎ (((7 ≤ n) × (n ≤ 9)) ⊎ ((35 ≤ n) × (n ≤ 37)))
+use Rattle.bench.proofs.Rules.{reply-reads}
 
 -- what the reader refuses with 240 bytes of room
 unread-number : (frame : List ℕ) (f : Unreadable) → readRefusal frame 240 ≡ some f → MeansSilence (faultNumber (Unread f))
@@ -63,7 +58,7 @@ module _ (bench : Bench) (frame room : List ℕ) {r : AfterTake} {room′ : List
   pub silent-number : (f : Fault) → r .answer ≡ Silent f → MeansSilence (faultNumber f)
   unfolding takeRefusal
   silent-number f e =
-      go (readRefusal frame 240) (requestRefusal bench (fieldsOf (messageOf frame)) (dataOf (messageOf frame)) (length room)) refl refl
+      go (readRefusal frame 240) (requestRefusal bench (fieldsIn frame) (dataIn frame) (length room)) refl refl
       (told-silent (takeRefusal bench frame (length room)) _ (sym (takes .0) ∙ e))
     where
       told-silent : (o : Option Fault) (reply : List ℕ) → takeAnswer o reply ≡ Silent f → o ≡ some f
@@ -71,24 +66,24 @@ module _ (bench : Bench) (frame room : List ℕ) {r : AfterTake} {room′ : List
       told-silent (some g) reply q = cc
 
       go : (o : Option Unreadable) (p : Option Fault) → readRefusal frame 240 ≡ o
-          → requestRefusal bench (fieldsOf (messageOf frame)) (dataOf (messageOf frame)) (length room) ≡ p → orLater (raised Unread o) p ≡ some f
+          → requestRefusal bench (fieldsIn frame) (dataIn frame) (length room) ≡ p → orLater (raised Unread o) p ≡ some f
           → MeansSilence (faultNumber f)
       go (some g) p read asked q = let same : Unread g ≡ f = cc in rw (← same) (unread-number frame g read)
-      go none p read asked q = request-number bench (fieldsOf (messageOf frame)) (dataOf (messageOf frame)) (length room) f (asked ∙ q)
+      go none p read asked q = request-number bench (fieldsIn frame) (dataIn frame) (length room) f (asked ∙ q)
 
   -- "so number 6 doesn't arise"
   pub take-never-6 : r .answer ≡ Silent (Unread NoRoom) → ⊥
   take-never-6 e = ⊎-elim (λ h. omega (arith, h .1)) (λ a. ⊎-elim (λ h. omega (arith, h .0)) (λ h. omega (arith, h .0)) a) (silent-number (Unread NoRoom) e)
 
   -- what is answered was read, is for this bench, is a request, and its reply has room
-  pub answered-so : (n : ℕ) → r .answer ≡ Answered n → Answerable bench frame (fieldsOf (messageOf frame)) (length room)
+  pub answered-so : (n : ℕ) → r .answer ≡ Answered n → Answerable bench frame (fieldsIn frame) (length room)
   unfolding takeRefusal readFrame takeRows IsOtherAddress IsNoRoom
   answered-so n e =
-      let both = or-none (raised Unread (readRefusal frame 240)) (requestRefusal bench (fieldsOf (messageOf frame)) (dataOf (messageOf frame)) (length room))
+      let both = or-none (raised Unread (readRefusal frame 240)) (requestRefusal bench (fieldsIn frame) (dataIn frame) (length room))
       (told-answered (takeRefusal bench frame (length room)) _ (sym (takes .0) ∙ e)) in
       let read = raised-none Unread (readRefusal frame 240) (both .0) in
-      let no = done-exactly (takeRows bench (fieldsOf (messageOf frame)) (dataOf (messageOf frame)) (length room)) _
-      (request-ranked bench (fieldsOf (messageOf frame)) (dataOf (messageOf frame)) (length room)) .0 (both .1) in
+      let no = done-exactly (takeRows bench (fieldsIn frame) (dataIn frame) (length room)) _
+      (request-ranked bench (fieldsIn frame) (dataIn frame) (length room)) .0 (both .1) in
       record { read = rw read; ours = equal _ _ (no .0); asks = no .1 .0; roomy = under (length room) _ (no .1 .1 .0) }
     where
       told-answered : (o : Option Fault) (reply : List ℕ) → takeAnswer o reply ≡ Answered n → o ≡ none
@@ -108,6 +103,6 @@ module _ (bench : Bench) (frame room : List ℕ) {r : AfterTake} {room′ : List
       × ((u .sort ≡ 0) ⊎ ((u .sort ≡ 3) ⊎ (u .sort ≡ 8)))
   every-reply n e buffer a buffer′ wide reads =
       let may = answered-so n e in
-      let back = reply-reads bench frame (fieldsOf (messageOf frame)) room may takes n e buffer a buffer′ wide reads
-      (deedOf bench (fieldsOf (messageOf frame)) (dataOf (messageOf frame))) refl in
-      (fieldsOf (messageOf frame), may .read, _, back .0, refl, refl, refl, deed-reply bench (fieldsOf (messageOf frame)) (dataOf (messageOf frame)))
+      let back = reply-reads bench frame (fieldsIn frame) room may takes n e buffer a buffer′ wide reads
+      (deedOf bench (fieldsIn frame) (dataIn frame)) refl in
+      (fieldsIn frame, may .read, _, back .0, refl, refl, refl, deed-reply bench (fieldsIn frame) (dataIn frame))

@@ -17,12 +17,17 @@ use Rattle.bench.specs.declared.Fault.the-variants.{WrongKind, WrongRigh
 use Rattle.bench.specs.declared.Building.{Building}
 use Rattle.bench.specs.declared.Building.the-variants.{Done, Refused}
 use Rattle.bench.specs.declared.AfterBuild.{AfterBuild}
-use Rattle.bench.specs.Register.{emptyBench, registerAt, placeOf, Held, isHeld, withValue}
+use Rattle.bench.specs.Register.{emptyBench, named, placeOf, Held, isHeld, withValue, faultNumber}
 
 -- each of the three answers so
 abbrev pub buildAnswer : Option Fault → Building
 buildAnswer (some f) = Refused f
 buildAnswer none = Done
+
+-- the number that an answer tells, or none
+abbrev pub buildTold : Building → Option ℕ
+buildTold (Refused f) = some (faultNumber f)
+buildTold Done = none
 
 abbrev pub buildBench : Option Fault → Bench → Bench → Bench
 buildBench (some f) before after = before
@@ -106,12 +111,12 @@ IsUnfit kind value = NoKind kind ⊎ Unfit kind value
 
 unfoldable pub setRows : Bench → ℕ → Value → List (Row Fault)
 setRows bench number value =
-    row (IsNotHeld bench number) NotHeld ∷ row (IsUnfit (registerAt bench (placeOf bench number) .kind) value) DoesNotFit ∷ []
+    row (IsNotHeld bench number) NotHeld ∷ row (IsUnfit (named bench number .kind) value) DoesNotFit ∷ []
 
 abbrev pub setTests : Bench → ℕ → Value → List (Test Fault)
 setTests bench number value =
     test (not (isHeld bench number)) NotHeld
-    ∷ test (not (isKind (registerAt bench (placeOf bench number) .kind) && fits (registerAt bench (placeOf bench number) .kind) value)) DoesNotFit
+    ∷ test (not (isKind (named bench number .kind) && fits (named bench number .kind) value)) DoesNotFit
     ∷ []
 
 unfoldable pub setRefusal : Bench → ℕ → Value → Option Fault
@@ -121,4 +126,4 @@ abbrev pub Sets : Bench → ℕ → Value → AfterBuild → Type 0
 Sets bench number value r =
     (r .answer ≡ buildAnswer (setRefusal bench number value))
     × (r .bench ≡ buildBench (setRefusal bench number value) bench
-    (withValue bench (placeOf bench number) (storedAt (sizeOf (registerAt bench (placeOf bench number) .kind)) value)))
+    (withValue bench (placeOf bench number) (storedAt (sizeOf (named bench number .kind)) value)))

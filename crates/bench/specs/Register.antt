@@ -9,10 +9,14 @@ use lib.ListN.{getD, replicate, set}
 use Rattle.first.specs.First.{firstPlace}
 use Rattle.deeds.specs.declared.Register.{Register}
 use Rattle.telegram.specs.Read.{faultNumber as readNumber}
+use Rattle.values.specs.Values.{sizeOf, isSigned, valueAt}
+use Rattle.values.specs.declared.Value.{Value}
 use Rattle.bench.specs.declared.Bench.{Bench}
 use Rattle.bench.specs.declared.Fault.{Fault}
 use Rattle.bench.specs.declared.Fault.the-variants.{Unread, WrongKind, WrongRights, AlreadyThere, Full, NotAModule, OtherAddress, NotARequest, NoRoom, NotHeld, DoesNotFit}
 use Rattle.bench.specs.declared.Seen.{Seen}
+use Rattle.bench.specs.declared.held.Found.{Found}
+use Rattle.bench.specs.declared.held.Found.the-variants.{At, Nowhere}
 use Rattle.bench.specs.declared.Seen.the-variants as seen
 
 abbrev pub noRegister : Register
@@ -39,6 +43,22 @@ Held bench number = (place : ℕ) × (place < heldCount bench) × (registerAt be
 
 abbrev pub isHeld : Bench → ℕ → Bool
 isHeld bench number = ltb (placeOf bench number) (heldCount bench)
+
+-- what a search for the register finds
+abbrev pub foundAt : Bool → ℕ → Found
+foundAt true place = At place
+foundAt false place = Nowhere
+
+abbrev pub found : Bench → ℕ → Found
+found bench number = foundAt (isHeld bench number) (placeOf bench number)
+
+-- the register that a number names
+abbrev pub named : Bench → ℕ → Register
+named bench number = registerAt bench (placeOf bench number)
+
+-- the value that a register's bytes mean
+abbrev pub meant : Register → Value
+meant register = valueAt (isSigned (register .kind)) (sizeOf (register .kind)) (register .value)
 
 -- the bench with another value in a register that it holds; every other register stays
 abbrev pub withValue : Bench → ℕ → ℕ → Bench
@@ -79,4 +99,4 @@ abbrev pub Numbers : Fault → ℕ → Type 0
 Numbers fault r = r ≡ faultNumber fault
 
 abbrev pub Looks : Bench → ℕ → Seen → Type 0
-Looks bench number r = r ≡ shown (isHeld bench number) (registerAt bench (placeOf bench number))
+Looks bench number r = r ≡ shown (isHeld bench number) (named bench number)

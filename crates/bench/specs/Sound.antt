@@ -49,3 +49,10 @@ Calls bench (toTake frame room) after = (r : AfterTake) × (room′ : List ℕ) 
 abbrev pub AfterCalls : Bench → List Call → Bench → Type 0
 AfterCalls bench [] after = after ≡ bench
 AfterCalls bench (call ∷ calls) after = (next : Bench) × Calls bench call next × AfterCalls next calls after
+
+-- the frames of these calls are made of bytes
+abbrev pub BytesOnly : List Call → Type 0
+BytesOnly [] = Unit {0}
+BytesOnly (toAdd number kind rights ∷ calls) = BytesOnly calls
+BytesOnly (toSet number value ∷ calls) = BytesOnly calls
+BytesOnly (toTake frame room ∷ calls) = AllBytes frame × BytesOnly calls

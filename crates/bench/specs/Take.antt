@@ -5,15 +5,15 @@ use mathlib.Core.Logic.{_≢_, _⊎_}
 use mathlib.Core.Bool.{Bool, cond, not, _||_}
 use mathlib.Core.List.{List, [], _∷_, _++_}
 use mathlib.Core.Option.{Option, some, none}
-use Prim.Native.Nat.{ℕ, _<_}
+use Prim.Native.Nat.{ℕ, _≤_, _<_}
 use lib.Dec.{eqb, ltb}
 use lib.ListN.{length}
 use Rattle.lent.specs.Lent.{over}
 use Rattle.rows.specs.Rows.{Row, row, Test, test, firstOf, orLater, passedUp, raised}
-use Rattle.frame.specs.Frame.{messageOf}
-use Rattle.telegram.specs.Read.{readRows, readRefusal, fieldsOf, dataOf}
+use Rattle.telegram.specs.Read.{readRows, readRefusal, readFrame, fieldsIn, dataIn}
 use Rattle.telegram.specs.Write.{telegramFor}
 use Rattle.telegram.specs.declared.Fields.{Fields}
+use Rattle.telegram.specs.declared.Reading.the-variants.{Telegram}
 use Rattle.values.specs.Values.{bytesOf}
 use Rattle.deeds.specs.Deeds.{nack, heldDeed}
 use Rattle.deeds.specs.declared.Deed.{Deed}
@@ -23,14 +23,14 @@ use Rattle.bench.specs.declared.Fault.the-variants.{Unread, OtherAddress
 use Rattle.bench.specs.declared.Taking.{Taking}
 use Rattle.bench.specs.declared.Taking.the-variants.{Answered, Silent}
 use Rattle.bench.specs.declared.AfterTake.{AfterTake}
-use Rattle.bench.specs.Register.{registerAt, placeOf, isHeld, withValue}
+use Rattle.bench.specs.Register.{named, placeOf, isHeld, withValue, faultNumber}
 
 -- ---- what a request does and what is answered
 
 -- "an unknown register included"
 unfoldable pub deedOf : Bench → Fields → List ℕ → Deed
 deedOf bench t bytes =
-    cond (isHeld bench (t .register)) (heldDeed (registerAt bench (placeOf bench (t .register))) (t .sort) bytes) (nack 0)
+    cond (isHeld bench (t .register)) (heldDeed (named bench (t .register)) (t .sort) bytes) (nack 0)
 
 -- "A telegram for it is answered to the telegram's source": from the bench's own address, with the register
 unfoldable pub replyFor : Bench → Fields → Deed → List ℕ
@@ -59,7 +59,7 @@ takeRows bench t bytes room =
 
 -- what means silence, in the call's order: the reader's rows, passed up whole ("It reads with 240 bytes of room of its own"), and then 35 to 37
 unfoldable pub silenceRows : Bench → List ℕ → ℕ → List (Row Fault)
-silenceRows bench frame room = passedUp Unread (readRows frame 240) ++ takeRows bench (fieldsOf (messageOf frame)) (dataOf (messageOf frame)) room
+silenceRows bench frame room = passedUp Unread (readRows frame 240) ++ takeRows bench (fieldsIn frame) (dataIn frame) room
 
 abbrev pub isAnswer : ℕ → Bool
 isAnswer sort = eqb sort 0 || (eqb sort 1 || (eqb sort 2 || (eqb sort 3 || eqb sort 8)))
@@ -80,13 +80,18 @@ abbrev pub roomRefusal : List ℕ → ℕ → Option Fault
 roomRefusal reply room = firstOf (test (ltb room (length reply)) NoRoom ∷ [])
 
 unfoldable pub takeRefusal : Bench → List ℕ → ℕ → Option Fault
-takeRefusal bench frame room = orLater (raised Unread (readRefusal frame 240)) (requestRefusal bench (fieldsOf (messageOf frame)) (dataOf (messageOf frame)) room)
+takeRefusal bench frame room = orLater (raised Unread (readRefusal frame 240)) (requestRefusal bench (fieldsIn frame) (dataIn frame) room)
 
 -- ---- the answer, the bench and the buffer, each from the refusal
 
 abbrev pub takeAnswer : Option Fault → List ℕ → Taking
 takeAnswer (some f) reply = Silent f
 takeAnswer none reply = Answered (length reply)
+
+-- the number that an answer tells, or none
+abbrev pub takeTold : Taking → Option ℕ
+takeTold (Silent f) = some (faultNumber f)
+takeTold (Answered n) = none
 
 -- the register's value afterwards; where the register is not held, nothing changes
 unfoldable pub doneTo : Bench → ℕ → Deed → Bench
@@ -114,5 +119,25 @@ Requests bench t bytes room r room′ =
 abbrev pub Takes : Bench → List ℕ → List ℕ → AfterTake → List ℕ → Type 0
 Takes bench frame room r room′ =
     Answers (takeRefusal bench frame (length room)) bench
-    (doneTo bench (fieldsOf (messageOf frame) .register) (deedOf bench (fieldsOf (messageOf frame)) (dataOf (messageOf frame))))
-    (replyOf bench (fieldsOf (messageOf frame)) (dataOf (messageOf frame))) room r room′
+    (doneTo bench (fieldsIn frame .register) (deedOf bench (fieldsIn frame) (dataIn frame)))
+    (replyOf bench (fieldsIn frame) (dataIn frame)) room r room′
+
+-- ---- a telegram that the bench answers
+
+-- it was read, it is for this bench, it is a request, and there is room for the reply
+pub record Answerable (bench : Bench) (frame : List ℕ) (t : Fields) (room : ℕ) : Type 0 where
+  pub read : readFrame frame 240 ≡ Telegram t
+  pub ours : t .destination ≡ bench .address
+  pub asks : IsNotARequest t → ⊥
+  pub roomy : length (replyOf bench t (dataIn frame)) ≤ room
+
+-- the reply goes "to the telegram's source", from the bench's address, with the register, a type and data; the bench is then `after`
+abbrev pub Gives : Bench → Fields → List ℕ → ℕ → List ℕ → Bench → AfterTake → List ℕ → Type 0
+Gives bench t room sort bytes after r room′ =
+    (r .answer ≡ Answered (length (telegramFor (t .source) (bench .address) sort (t .register) bytes)))
+    × (r .bench ≡ after)
+    × (room′ ≡ over (telegramFor (t .source) (bench .address) sort (t .register) bytes) room)
+
+-- "numbers 1 to 5, 7 to 9 and 35 to 37 mean silence"
+abbrev pub MeansSilence : ℕ → Type 0
+MeansSilence n = ((1 ≤ n) × (n ≤ 5)) ⊎ (((7 ≤ n) × (n ≤ 9)) ⊎ ((35 ≤ n) × (n ≤ 37)))

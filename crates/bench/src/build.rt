@@ -22,10 +22,7 @@ fn refused(bench: Bench, fault: Fault) -> AfterBuild
 pub fn make(address: u8) -> AfterBuild
     ensures { λ r. ⌜ Makes address r ⌝ }
 {
-    if address == 0 {
-        return refused(held::empty(0), Fault::NotAModule);
-    }
-    if 160 < address {
+    if address == 0 || 160 < address {
         return refused(held::empty(0), Fault::NotAModule);
     }
     AfterBuild {
@@ -44,9 +41,9 @@ pub fn add(bench: Bench, number: u8, kind: u8, rights: u8) -> AfterBuild
     if 7 < rights {
         return refused(bench, Fault::WrongRights);
     }
-    if held::place_of(bench, number) < held::held_count(bench) {
+    let held::Found::Nowhere = held::find(bench, number) else {
         return refused(bench, Fault::AlreadyThere);
-    }
+    };
     if 32 <= bench.count {
         return refused(bench, Fault::Full);
     }
@@ -60,10 +57,9 @@ pub fn add(bench: Bench, number: u8, kind: u8, rights: u8) -> AfterBuild
 pub fn set(bench: Bench, number: u8, value: values::Value) -> AfterBuild
     ensures { λ r. ⌜ Sets bench number value r ⌝ }
 {
-    let place = held::place_of(bench, number);
-    if held::held_count(bench) <= place {
+    let held::Found::At(place) = held::find(bench, number) else {
         return refused(bench, Fault::NotHeld);
-    }
+    };
     let register = held::register_at(bench, place);
     let values::Stored::As(stored) = values::as_stored(register.kind, value) else {
         return refused(bench, Fault::DoesNotFit);

@@ -2,13 +2,19 @@
 use crate::Bench;
 use crate::Seen;
 use deeds::Register;
-ghost use Rattle.bench.specs.Register.{Looks, emptyBench, registerAt, heldCount, placeOf, withValue};
+ghost use Rattle.bench.specs.Register.{Looks, emptyBench, registerAt, heldCount, found, withValue};
 ghost use Rattle.bench.specs.Build.{withRegister};
 ghost use mathlib.Core.Path.{_≡_};
 ghost use Prim.Native.Nat.{_<_};
 
 // The most registers that a bench holds.
 pub const MOST: usize = 32;
+
+// Where a register is held, if it is.
+pub(crate) enum Found {
+    At(usize),
+    Nowhere,
+}
 
 const NOTHING: Register = Register {
     number: 0,
@@ -29,7 +35,7 @@ pub(crate) fn empty(address: u8) -> Bench
 }
 
 // How many registers are held. A count that no call made means all of them.
-pub(crate) fn held_count(bench: Bench) -> usize
+fn held_count(bench: Bench) -> usize
     ensures { λ r. ⌜ r ≡ heldCount bench ⌝ }
 {
     let n = bench.count as usize;
@@ -43,19 +49,19 @@ pub(crate) fn register_at(bench: Bench, place: usize) -> Register
     bench.registers[place]
 }
 
-// Where the register is held; the number of those held where it is not.
-pub(crate) fn place_of(bench: Bench, number: u8) -> usize
-    ensures { λ r. ⌜ r ≡ placeOf bench number ⌝ }
+// Looks for a register among those held.
+pub(crate) fn find(bench: Bench, number: u8) -> Found
+    ensures { λ r. ⌜ r ≡ found bench number ⌝ }
 {
     let n = held_count(bench);
     let mut place = 0;
     while place < n {
         if register_at(bench, place).number == number {
-            return place;
+            return Found::At(place);
         }
         place += 1;
     }
-    n
+    Found::Nowhere
 }
 
 // The bench with one register more, behind those that it holds.
@@ -93,10 +99,8 @@ pub(crate) fn with_value(mut bench: Bench, place: usize, value: u64) -> Bench
 pub fn look(bench: Bench, number: u8) -> Seen
     ensures { λ r. ⌜ Looks bench number r ⌝ }
 {
-    let place = place_of(bench, number);
-    if place < held_count(bench) {
-        Seen::Held(register_at(bench, place))
-    } else {
-        Seen::NotHeld
+    match find(bench, number) {
+        Found::At(place) => Seen::Held(register_at(bench, place)),
+        Found::Nowhere => Seen::NotHeld,
     }
 }

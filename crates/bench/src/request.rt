@@ -18,7 +18,7 @@ ghost use lib.ListN.{length};
 pub fn take(bench: Bench, frame: &[u8], room: &mut [u8]) -> AfterTake
     ensures { λ r. ⌜ Takes bench (now (frame .entry)) (now (room .entry)) r (now (room .exit)) ⌝ }
 {
-    let mut space = [0u8; 240];
+    let mut space = [0u8; telegram::MOST_DATA];
     let reading = telegram::read(frame, &mut space);
     let telegram::Reading::Telegram(t) = reading else {
         return silent(bench, Fault::Unread(telegram::why(reading)));
@@ -54,25 +54,21 @@ fn request(bench: Bench, t: Fields, bytes: &[u8], room: &mut [u8]) -> AfterTake
 fn is_answer(sort: u8) -> bool
     ensures { λ r. ⌜ r ≡ isAnswer sort ⌝ }
 {
-    if sort == 0 {
-        return true;
+    match sort {
+        telegram::NACK
+        | telegram::CHECK_ERROR
+        | telegram::BUSY
+        | telegram::ACK
+        | telegram::DATAGRAM => true,
+        _ => false,
     }
-    if sort == 1 {
-        return true;
-    }
-    if sort == 2 {
-        return true;
-    }
-    if sort == 3 {
-        return true;
-    }
-    sort == 8
 }
 
 // Row 37: the reply is written where there is room for it, and only then is the deed done.
 fn reply(bench: Bench, t: Fields, deed: Deed, room: &mut [u8]) -> AfterTake
     requires { ⌜ (t .source ≢ 0) × (bench .address ≢ 0) × (deed .sort ≤ 9) × (deed .size ≤ 8) ⌝ }
-    ensures { λ r. ⌜ Answers (roomRefusal (replyFor bench t deed) (length (now (room .entry)))) bench (doneTo bench (t .register) deed) (replyFor bench t deed) (now (room .entry)) r (now (room .exit)) ⌝ }
+    ensures { λ r. ⌜ Answers (roomRefusal (replyFor bench t deed) (length (now (room .entry)))) bench
+        (doneTo bench (t .register) deed) (replyFor bench t deed) (now (room .entry)) r (now (room .exit)) ⌝ }
 {
     let mut space = [0u8; 8];
     let n = deed.size;
@@ -97,11 +93,9 @@ fn reply(bench: Bench, t: Fields, deed: Deed, room: &mut [u8]) -> AfterTake
 fn done(bench: Bench, number: u8, deed: Deed) -> Bench
     ensures { λ r. ⌜ r ≡ doneTo bench number deed ⌝ }
 {
-    let place = held::place_of(bench, number);
-    if place < held::held_count(bench) {
-        held::with_value(bench, place, deed.value)
-    } else {
-        bench
+    match held::find(bench, number) {
+        held::Found::At(place) => held::with_value(bench, place, deed.value),
+        held::Found::Nowhere => bench,
     }
 }
 
@@ -109,14 +103,8 @@ fn done(bench: Bench, number: u8, deed: Deed) -> Bench
 fn deed(bench: Bench, t: Fields, bytes: &[u8]) -> Deed
     ensures { λ r. ⌜ r ≡ deedOf bench t (now (bytes .entry)) ⌝ }
 {
-    let place = held::place_of(bench, t.register);
-    if place < held::held_count(bench) {
-        deeds::held_deed(held::register_at(bench, place), t.sort, bytes)
-    } else {
-        Deed {
-            sort: 0,
-            size: 0,
-            value: 0,
-        }
+    match held::find(bench, t.register) {
+        held::Found::At(place) => deeds::held_deed(held::register_at(bench, place), t.sort, bytes),
+        held::Found::Nowhere => deeds::nack(0),
     }
 }

@@ -5,53 +5,36 @@ use mathlib.Core.Bool.{Bool, true, false, cond, not, _&&_, _||_, true≢false}
 use mathlib.Core.List.{List, [], _∷_}
 use mathlib.Core.Logic.{_⊎_, ⊎-elim, _↔_}
 use mathlib.Core.Option.{Option, some, none}
-use Prim.Native.Nat.{ℕ, zero, suc, _≤_, _<_}
+use Prim.Native.Nat.{ℕ, zero, suc, _<_}
 use native.Mathlib.Decide.{decLt}
 use native.Mathlib.Nat.{le-of-suc-le-suc, not-suc-le-zero}
 use native.Mathlib.Omega.{arith}
 use borrow.Author.Tests.{not-true, not-false}
 use lib.Dec.{T, leb, leb→le}
 use lib.ListN.{length, getD}
-use Rattle.rows.specs.Rows.{First, NoRow, Ranked}
-use Rattle.rows.proofs.Laws.{Decides, ranked, _otherwise_, told-exactly, clash}
-use Rattle.values.specs.Values.{sizeOf, isSigned, isKind, greatest, fits, Holds}
+use Rattle.rows.proofs.Settled.{settled}
+use Rattle.rows.specs.Settled.{Settled}
+use Rattle.rows.specs.Rows.{Ranked, passedUp, raised, Numbered}
+use Rattle.rows.proofs.Laws.{Decides, ranked, _otherwise_, numbered, clash}
+use Rattle.values.specs.Values.{sizeOf, isSigned, isKind, greatest, fits}
 use Rattle.values.specs.declared.Value.the-variants.{Natural}
 use Rattle.values.proofs.Table.{at, every, both-left, both-right}
 use Rattle.values.proofs.Refusals.{decides-fits}
-use Rattle.catalogue.specs.Catalogue.{Written, reads, whole, from1, between, Line, table, nothing, mayWrite, lowestOf, highestOf, entryOf, For, NoSuch, findRows, isFor, named, lineFor, findTests, findRefusal, findAnswer, findEntry, Numbers, Finds}
+use Rattle.catalogue.specs.Catalogue.{Written, reads, whole, from1, between, Line, table, nothing, mayWrite, lowestOf, highestOf, entryOf, Right, sound, distinct}
+use Rattle.catalogue.specs.Catalogue.{VARIA, COMPACT, For, NoSuch, findRows, isFor, named, lineFor, findTests, findRefusal, findAnswer, findEntry, faultNumber, findTold, Numbers, Finds}
 use Rattle.catalogue.specs.declared.Entry.{Entry}
 use Rattle.catalogue.specs.declared.Fault.{Fault}
 use Rattle.catalogue.specs.declared.Fault.the-variants.{NoSuchRow}
 use Rattle.catalogue.specs.declared.Found.{Found}
-use Rattle.catalogue.specs.declared.Found.the-variants.{Is, Refused}
+use Rattle.catalogue.specs.declared.Found.the-variants.{Is}
 use Rattle.catalogue.proofs.Lookup.{is-for, for-is}
 
 -- ---- "its rule checked once over the table"
-
--- of one line: a kind, ends in order, both ends of the kind
-unfoldable sound : Line → Bool
-sound l =
-    isKind (l .kind)
-    && (leb (lowestOf (l .written)) (highestOf (l .kind) (l .written))
-    && (fits (l .kind) (Natural (lowestOf (l .written))) && fits (l .kind) (Natural (highestOf (l .kind) (l .written)))))
-
--- of all: no pair of type and register twice
-unfoldable distinct : List Line → Bool
-distinct [] = true
-distinct (l ∷ rest) = not (named (l .model) (l .register) rest) && distinct rest
 
 -- the one test of the whole table
 checked : T (distinct table && every sound table)
 unfolding table sound distinct named isFor isKind fits greatest sizeOf isSigned
 checked = tt
-
-pub record Right (l : Line) : Type 0 where
-  pub known : isKind (l .kind) ≡ true
-  pub in-order : lowestOf (l .written) ≤ highestOf (l .kind) (l .written)
-  pub low-fits : Holds (isSigned (l .kind)) (sizeOf (l .kind)) (Natural (lowestOf (l .written)))
-  pub high-fits : Holds (isSigned (l .kind)) (sizeOf (l .kind)) (Natural (highestOf (l .kind) (l .written)))
-  pub read-zero : mayWrite (l .written) ≡ false → (lowestOf (l .written) ≡ 0) × (highestOf (l .kind) (l .written) ≡ 0)
-  pub to-top : (l .written ≡ whole) ⊎ (l .written ≡ from1) → highestOf (l .kind) (l .written) ≡ greatest (l .kind)
 
 truth : (b : Bool) → T b → b ≡ true
 truth true t = refl
@@ -66,6 +49,8 @@ sound-right l t =
       low-fits = decides-fits (l .kind) (Natural lo) .so (truth _ (both-left (fits (l .kind) (Natural lo)) _ third));
       high-fits = decides-fits (l .kind) (Natural hi) .so (truth _ (both-right (fits (l .kind) (Natural lo)) _ third));
       read-zero = zeros (l .written);
+      from-zero = ap lowestOf;
+      from-one = ap lowestOf;
       to-top = ⊎-elim (ap (highestOf (l .kind))) (ap (highestOf (l .kind)));
     }
   where
@@ -129,7 +114,7 @@ no-pair-twice i j hi hj model register f g = elim (decLt i j) [
     once : T (distinct table)
     once = both-left (distinct table) (every sound table) checked
 
--- ---- "it answers the row of that pair exactly where there is one"
+-- ---- the row of a pair is answered exactly where there is one
 
 -- where some line has the pair, the search stops at one that has it
 first-for : (model register : ℕ) (xs : List Line) → named model register xs ≡ true
@@ -157,6 +142,14 @@ row-answered i model register h f =
     let first = first-for model register table there in
     let place : first .0 ≡ i = no-pair-twice (first .0) i (first .1) h model register (first .2) f in
     rw (there, first .3 ∙ ap (λ (k : ℕ). getD table k nothing) place)
+
+-- computed: one of each sort, "read", "whole range", "from 1", and with its two ends
+pub rows-told : (findEntry COMPACT 0x1B ≡ Is (record { kind = 4; writable = false; lowest = 0; highest = 0 }))
+    × (findEntry VARIA 0x34 ≡ Is (record { kind = 3; writable = true; lowest = 0; highest = 65535 }))
+    × (findEntry COMPACT 0x33 ≡ Is (record { kind = 5; writable = true; lowest = 1; highest = 4294967295 }))
+    × (findEntry COMPACT 0x24 ≡ Is (record { kind = 3; writable = true; lowest = 0; highest = 4095 }))
+unfolding findEntry findRefusal named lineFor isFor table greatest isSigned sizeOf
+rows-told = (refl, refl, refl, refl)
 
 -- and nothing else is
 pub found-exactly : (model register : ℕ) (e : Entry)
@@ -189,19 +182,26 @@ pub find-ranked : (model register : ℕ) → Ranked (findRows model register) (f
 unfolding findRows findRefusal
 find-ranked model register = ranked (findTests model register) (findRows model register) (decides-no-such model register otherwise λ n₅₀. tt)
 
--- and so of the answer, both ways
-pub find-exactly : (model register : ℕ)
-    → ((f : Fault) → (findEntry model register ≡ Refused f) ↔ First (findRows model register) f)
-    × ((findEntry model register ≡ Is (entryOf (lineFor model register table))) ↔ NoRow (findRows model register))
-unfolding findEntry
-find-exactly model register =
-    told-exactly (λ (o : Option Fault). findAnswer o (entryOf (lineFor model register table))) Refused
-    (λ f. refl) (λ f g e. cc) (λ f e. clash (cc)) (findRows model register) (findRefusal model register) (find-ranked model register)
+-- and so of the call, by the paper's number
+pub find-exactly : (model register : ℕ) {r : Found} → Finds model register r
+    → Numbered (passedUp faultNumber (findRows model register)) (50 ∷ []) (findTold r)
+unfolding findRows findEntry
+find-exactly model register finds =
+    numbered faultNumber (findRows model register) (findRefusal model register) (find-ranked model register)
+    (50 ∷ []) refl refl _ (ap findTold finds ∙ told (findRefusal model register) _)
+  where
+    told : (o : Option Fault) (e : Entry) → findTold (findAnswer o e) ≡ raised faultNumber o
+    told (some f) e = refl
+    told none e = refl
 
 -- ---- "Show that any two outcomes allowed by it are equal."
 
-pub numbers-once : (fault : Fault) {a b : ℕ} → Numbers fault a → Numbers fault b → a ≡ b
-numbers-once fault p q = p ∙ sym q
+-- the call `number` gives the number that the laws tell
+pub number-is : (f : Fault) (r : ℕ) → Numbers f r → r ≡ faultNumber f
+number-is f r p = p
 
-pub finds-once : (model register : ℕ) {a b : Found} → Finds model register a → Finds model register b → a ≡ b
-finds-once model register p q = p ∙ sym q
+pub numbers-settled : (fault : Fault) → Settled (Numbers fault)
+numbers-settled fault = settled _
+
+pub finds-settled : (model register : ℕ) → Settled (Finds model register)
+finds-settled model register = settled _

@@ -3,14 +3,16 @@
 use mathlib.Core.Path.{_≡_}
 use mathlib.Core.Bool.{Bool, true, false, cond, not, _&&_, _||_}
 use mathlib.Core.List.{List, [], _∷_}
+use mathlib.Core.Logic.{_⊎_}
 use mathlib.Core.Option.{Option, some, none}
-use Prim.Native.Nat.{ℕ, _<_}
-use lib.Dec.{eqb}
+use Prim.Native.Nat.{ℕ, _≤_, _<_}
+use lib.Dec.{eqb, leb}
 use lib.ListN.{length, getD}
 use Rattle.rows.specs.Rows.{Row as Refusal, row, Test, test, firstOf}
-use Rattle.values.specs.Values.{greatest}
+use Rattle.values.specs.Values.{sizeOf, isSigned, isKind, greatest, fits, Holds}
+use Rattle.values.specs.declared.Value.the-variants.{Natural}
 use Rattle.catalogue.specs.declared.Entry.{Entry}
-use Rattle.catalogue.specs.declared.Row.{Row}
+use Rattle.catalogue.specs.declared.table.Row.{Row}
 use Rattle.catalogue.specs.declared.Fault.{Fault}
 use Rattle.catalogue.specs.declared.Fault.the-variants.{NoSuchRow}
 use Rattle.catalogue.specs.declared.Found.{Found}
@@ -115,12 +117,12 @@ highestOf kind (between lo hi) = hi
 abbrev pub rowOf : Line → Row
 rowOf l =
     record {
-      0 = l .model;
-      1 = l .register;
-      2 = l .kind;
-      3 = mayWrite (l .written);
-      4 = lowestOf (l .written);
-      5 = highestOf (l .kind) (l .written);
+      model = l .model;
+      register = l .register;
+      kind = l .kind;
+      writable = mayWrite (l .written);
+      lowest = lowestOf (l .written);
+      highest = highestOf (l .kind) (l .written);
     }
 
 -- what is answered of a line
@@ -175,6 +177,36 @@ findAnswer none e = found.Is e
 
 unfoldable pub findEntry : ℕ → ℕ → Found
 findEntry model register = findAnswer (findRefusal model register) (entryOf (lineFor model register table))
+
+-- the number that an answer tells, or none
+abbrev pub findTold : Found → Option ℕ
+findTold (found.Refused f) = some (faultNumber f)
+findTold (found.Is e) = none
+
+-- ---- the rule of the table
+
+-- of a line: a kind, ends in order, both ends of the kind, and where they are as the paper says
+pub record Right (l : Line) : Type 0 where
+  pub known : isKind (l .kind) ≡ true
+  pub in-order : lowestOf (l .written) ≤ highestOf (l .kind) (l .written)
+  pub low-fits : Holds (isSigned (l .kind)) (sizeOf (l .kind)) (Natural (lowestOf (l .written)))
+  pub high-fits : Holds (isSigned (l .kind)) (sizeOf (l .kind)) (Natural (highestOf (l .kind) (l .written)))
+  pub read-zero : mayWrite (l .written) ≡ false → (lowestOf (l .written) ≡ 0) × (highestOf (l .kind) (l .written) ≡ 0)
+  pub from-zero : l .written ≡ whole → lowestOf (l .written) ≡ 0
+  pub from-one : l .written ≡ from1 → lowestOf (l .written) ≡ 1
+  pub to-top : (l .written ≡ whole) ⊎ (l .written ≡ from1) → highestOf (l .kind) (l .written) ≡ greatest (l .kind)
+
+-- how it is tested, of one line
+unfoldable pub sound : Line → Bool
+sound l =
+    isKind (l .kind)
+    && (leb (lowestOf (l .written)) (highestOf (l .kind) (l .written))
+    && (fits (l .kind) (Natural (lowestOf (l .written))) && fits (l .kind) (Natural (highestOf (l .kind) (l .written)))))
+
+-- and of all: no pair of type and register twice
+unfoldable pub distinct : List Line → Bool
+distinct [] = true
+distinct (l ∷ rest) = not (named (l .model) (l .register) rest) && distinct rest
 
 -- ---- the contracts
 

@@ -8,10 +8,10 @@ use native.Mathlib.Omega.{arith}
 use native.Mathlib.Decide.{decLt}
 use borrow.Author.Tests.{eqb-true, eq-eqb, ne-eqb}
 use lib.Dec.{eqb}
-use lib.ListN.{length, take}
-use lib.Seq.{take-all}
+use lib.ListN.{length}
+use Rattle.values.proofs.Laws.{loads-all}
 use Rattle.values.proofs.Sized.{size-le}
-use Rattle.values.specs.Values.{sizeOf, natural, setBits, clearBits, toggleBits}
+use Rattle.values.specs.Values.{sizeOf, natural, setBits, clearBits, toggleBits, Loads}
 use Rattle.deeds.specs.Deeds.{hasRight, nack, ack, readDeed, writeDeed, heldDeed, Changes, isBitWrite}
 use Rattle.deeds.specs.declared.Register.{Register}
 
@@ -53,7 +53,7 @@ module _ (register : Register) (n : ℕ) where
 -- ---- by the request's type
 
 -- what is loaded counts only where it is the kind's size, and then it is all of the data
-pub loaded : (register : Register) (right : ℕ) (bytes : List ℕ) (f : ℕ → ℕ) (mask : ℕ) → mask ≡ natural (take 8 bytes)
+pub loaded : (register : Register) (right : ℕ) (bytes : List ℕ) (f : ℕ → ℕ) (mask : ℕ) → Loads bytes mask
     → writeDeed register right (length bytes) (f mask) ≡ writeDeed register right (length bytes) (f (natural bytes))
 unfolding writeDeed
 loaded register right bytes f mask e = by-size (hasRight register right) (eqb (length bytes) (sizeOf (register .kind))) refl
@@ -63,15 +63,15 @@ loaded register right bytes f mask e = by-size (hasRight register right) (eqb (l
     by-size false b q = refl
     by-size true false q = refl
     by-size true true q =
-        let all : take 8 bytes ≡ bytes = take-all 8 bytes (omega (arith, eqb-true (length bytes) (sizeOf (register .kind)) q, size-most (register .kind))) in
-        rw (e, all)
+        let few : length bytes ≤ 8 = omega (arith, eqb-true (length bytes) (sizeOf (register .kind)) q, size-most (register .kind)) in
+        rw (loads-all bytes few e)
 
 module _ (register : Register) (sort : ℕ) (bytes : List ℕ) where
   pub deed-read : sort ≡ 4 → readDeed register (length bytes) ≡ heldDeed register sort bytes
   unfolding heldDeed
   deed-read e = rw e
 
-  module _ (mask : ℕ) (is : mask ≡ natural (take 8 bytes)) where
+  module _ (mask : ℕ) (is : Loads bytes mask) where
     pub deed-write : sort ≡ 5 → writeDeed register 2 (length bytes) mask ≡ heldDeed register sort bytes
     unfolding heldDeed
     deed-write e = rw e (loaded register 2 bytes (λ m. m) mask is)

@@ -4,33 +4,39 @@ use mathlib.Core.Path.{_≡_, refl, sym, _∙_}
 use mathlib.Core.Bool.{Bool, true, false, cond, _&&_}
 use mathlib.Core.List.{List}
 use mathlib.Core.Logic.{_⊎_, inl, inr}
-use Prim.Native.Nat.{ℕ, _*_, _/_, _%_, _^_, _≤_, _<_}
+use Prim.Native.Nat.{ℕ, zero, suc, _+_, _*_, _/_, _%_, _^_, _≤_, _<_}
 use native.Mathlib.Omega.{arith}
 use borrow.Author.Tests.{eqb-true}
 use lib.Dec.{eqb}
 use lib.ListN.{length}
+use Rattle.rows.proofs.Settled.{settled}
+use Rattle.rows.specs.Settled.{Settled}
 use Rattle.rows.proofs.Laws.{decides-eq, decides-and, told-true}
 use Rattle.values.proofs.Bytes.{natural-lt}
 use Rattle.values.proofs.Laws.{set-size, clear-size, toggle-size}
 use Rattle.values.specs.Values.{sizeOf, natural, Bytes, setBits, clearBits, toggleBits}
-use Rattle.deeds.specs.Deeds.{HasRight, hasRight, nack, ack, datagram, readDeed, writeDeed, heldDeed, Does}
+use Rattle.deeds.specs.Deeds.{HasRight, hasRight, share, MayRead, MayWrite, MayChange, nack, ack, datagram, readDeed, writeDeed, heldDeed, Small, Reply, Does, Nacks}
 use Rattle.deeds.specs.declared.Register.{Register}
 use Rattle.deeds.specs.declared.Deed.{Deed}
 use Rattle.deeds.proofs.Deeds.{size-most, read-allowed, write-allowed, deed-read}
 
--- ---- when each rule applies to a held register
+-- ---- "Rights: 1 read, 2 write, 4 bit writes, summed."
 
--- "read with the right and no data"
-abbrev pub MayRead : Register → ℕ → List ℕ → Type 0
-MayRead register sort bytes = (sort ≡ 4) × HasRight register 1 × (length bytes ≡ 0)
-
--- "write with the right and exactly the kind's size of data"
-abbrev pub MayWrite : Register → ℕ → List ℕ → Type 0
-MayWrite register sort bytes = (sort ≡ 5) × HasRight register 2 × (length bytes ≡ sizeOf (register .kind))
-
--- "set, clear or toggle with right 4 and that size"
-abbrev pub MayChange : Register → ℕ → List ℕ → Type 0
-MayChange register sort bytes = ((sort ≡ 6) ⊎ ((sort ≡ 7) ⊎ (sort ≡ 9))) × HasRight register 4 × (length bytes ≡ sizeOf (register .kind))
+pub rights-summed : (register : Register) → register .rights ≤ 7 → register .rights ≡ share register 1 + share register 2 + share register 4
+rights-summed register h =
+    let one = counted (register .rights / 1 % 2) 1 (omega arith) in
+    let two = counted (register .rights / 2 % 2) 2 (omega arith) in
+    let four = counted (register .rights / 4 % 2) 4 (omega arith) in
+    let low : register .rights / 1 % 2 ≡ register .rights % 2 = omega arith in
+    let high : register .rights / 4 % 2 ≡ register .rights / 4 = omega arith in
+    let middle : register .rights / 2 ≡ 2 * (register .rights / 4) + register .rights / 2 % 2 = omega arith in
+    let all : register .rights ≡ 2 * (register .rights / 2) + register .rights % 2 = omega arith in
+    omega (arith, one, two, four, low, high, middle, all)
+  where
+    counted : (b right : ℕ) → b < 2 → cond (eqb b 1) right 0 ≡ b * right
+    counted zero right h = omega arith
+    counted (suc zero) right h = omega arith
+    counted (suc (suc b)) right h = absurd (omega arith)
 
 -- ---- the deed of each
 
@@ -84,63 +90,43 @@ module _ (register : Register) (sort : ℕ) (bytes : List ℕ) where
   other-deed no-read no-write no-change =
       choose (eqb sort 4) _ _ _ (λ e. unread-deed (λ h. no-read (eqb-true sort 4 e, h .0, h .1)))
       (choose (eqb sort 5) _ _ _ (λ e. unwritten-deed 2 (natural bytes) (λ h. no-write (eqb-true sort 5 e, h .0, h .1)))
-      (choose (eqb sort 6) _ _ _ (λ e. unwritten-deed 4 (setBits (register .value) (natural bytes)) (λ h. no-change (inl (eqb-true sort 6 e), h .0, h .1)))
-      (choose (eqb sort 7) _ _ _ (λ e. unwritten-deed 4 (clearBits (register .value) (natural bytes)) (λ h. no-change (inr (inl (eqb-true sort 7 e)), h .0, h .1)))
-      (choose (eqb sort 9) _ _ _ (λ e. unwritten-deed 4 (toggleBits (register .value) (natural bytes)) (λ h. no-change (inr (inr (eqb-true sort 9 e)), h .0, h .1))) refl))))
+      (choose (eqb sort 6) _ _ _ (λ e. unchanged _ (inl (eqb-true sort 6 e)))
+      (choose (eqb sort 7) _ _ _ (λ e. unchanged _ (inr (inl (eqb-true sort 7 e))))
+      (choose (eqb sort 9) _ _ _ (λ e. unchanged _ (inr (inr (eqb-true sort 9 e)))) refl))))
+    where
+      unchanged : (value : ℕ) → (sort ≡ 6) ⊎ ((sort ≡ 7) ⊎ (sort ≡ 9)) → writeDeed register 4 (length bytes) value ≡ nack (register .value)
+      unchanged value is = unwritten-deed 4 value (λ h. no-change (is, h .0, h .1))
 
--- ---- what the writer of the reply needs to know
+-- ---- what holds of a datagram, a nack and every ack holds of what a request does
 
 pub either : {A : Type 0} (P : A → Type 0) (b : Bool) (x y : A) → P x → P y → P (cond b x y)
 either P true x y p q = p
 either P false x y p q = q
 
-abbrev pub Small : Deed → Type 0
-Small deed = (deed .sort ≤ 9) × (deed .size ≤ 8)
+held-any : (P : Deed → Type 0) (register : Register) → P (datagram register) → P (nack (register .value)) → ((v : ℕ) → P (ack v))
+    → (sort : ℕ) (bytes : List ℕ) → P (heldDeed register sort bytes)
+unfolding heldDeed readDeed writeDeed
+held-any P register read denied written sort bytes =
+    either P (eqb sort 4) _ _ (either P (hasRight register 1 && eqb (length bytes) 0) _ _ read denied)
+    (either P (eqb sort 5) _ _ (writes 2 (natural bytes))
+    (either P (eqb sort 6) _ _ (writes 4 (setBits (register .value) (natural bytes)))
+    (either P (eqb sort 7) _ _ (writes 4 (clearBits (register .value) (natural bytes)))
+    (either P (eqb sort 9) _ _ (writes 4 (toggleBits (register .value) (natural bytes))) denied))))
+  where
+    writes : (right v : ℕ) → P (cond (hasRight register right && eqb (length bytes) (sizeOf (register .kind))) (ack v) (nack (register .value)))
+    writes right v = either P (hasRight register right && eqb (length bytes) (sizeOf (register .kind))) _ _ (written v) denied
 
+-- so the writer of the reply has room enough
 pub nacked : (v : ℕ) → Small (nack v)
 nacked v = (omega arith, omega arith)
 
-read-small : (register : Register) (n : ℕ) → Small (readDeed register n)
-unfolding readDeed
-read-small register n =
-    either Small (hasRight register 1 && eqb n 0) (datagram register) (nack (register .value)) (omega arith, size-most (register .kind)) (nacked (register .value))
-
-write-small : (register : Register) (right n v : ℕ) → Small (writeDeed register right n v)
-unfolding writeDeed
-write-small register right n v =
-    either Small (hasRight register right && eqb n (sizeOf (register .kind))) (ack v) (nack (register .value)) (omega arith, omega arith) (nacked (register .value))
-
--- the type is at most 9 and there are at most 8 bytes
 pub held-small : (register : Register) (sort : ℕ) (bytes : List ℕ) → Small (heldDeed register sort bytes)
-unfolding heldDeed
-held-small register sort bytes =
-    either Small (eqb sort 4) _ _ (read-small register (length bytes))
-    (either Small (eqb sort 5) _ _ (write-small register 2 (length bytes) (natural bytes))
-    (either Small (eqb sort 6) _ _ (write-small register 4 (length bytes) (setBits (register .value) (natural bytes)))
-    (either Small (eqb sort 7) _ _ (write-small register 4 (length bytes) (clearBits (register .value) (natural bytes)))
-    (either Small (eqb sort 9) _ _ (write-small register 4 (length bytes) (toggleBits (register .value) (natural bytes))) (nacked (register .value))))))
+held-small register =
+    held-any Small register (omega arith, size-most (register .kind)) (nacked (register .value)) (λ v. (omega arith, omega arith))
 
--- the types that a bench answers with: nack, ack and datagram
-abbrev pub Reply : Deed → Type 0
-Reply deed = (deed .sort ≡ 0) ⊎ ((deed .sort ≡ 3) ⊎ (deed .sort ≡ 8))
-
-read-reply : (register : Register) (n : ℕ) → Reply (readDeed register n)
-unfolding readDeed
-read-reply register n = either Reply (hasRight register 1 && eqb n 0) (datagram register) (nack (register .value)) (inr (inr refl)) (inl refl)
-
-write-reply : (register : Register) (right n v : ℕ) → Reply (writeDeed register right n v)
-unfolding writeDeed
-write-reply register right n v =
-    either Reply (hasRight register right && eqb n (sizeOf (register .kind))) (ack v) (nack (register .value)) (inr (inl refl)) (inl refl)
-
+-- and these are the types that a bench answers with
 pub held-reply : (register : Register) (sort : ℕ) (bytes : List ℕ) → Reply (heldDeed register sort bytes)
-unfolding heldDeed
-held-reply register sort bytes =
-    either Reply (eqb sort 4) _ _ (read-reply register (length bytes))
-    (either Reply (eqb sort 5) _ _ (write-reply register 2 (length bytes) (natural bytes))
-    (either Reply (eqb sort 6) _ _ (write-reply register 4 (length bytes) (setBits (register .value) (natural bytes)))
-    (either Reply (eqb sort 7) _ _ (write-reply register 4 (length bytes) (clearBits (register .value) (natural bytes)))
-    (either Reply (eqb sort 9) _ _ (write-reply register 4 (length bytes) (toggleBits (register .value) (natural bytes))) (inl refl)))))
+held-reply register = held-any Reply register (inr (inr refl)) (inl refl) (λ v. inr (inl refl))
 
 -- ---- a value that fits its kind still does afterwards
 
@@ -166,18 +152,26 @@ module _ (register : Register) (small : register .value < 2 ^ (8 * sizeOf (regis
   deed-fits sort bytes each =
       either Fits (eqb sort 4) _ _ (read-fits (length bytes))
       (either Fits (eqb sort 5) _ _ (write-fits 2 (length bytes) (natural bytes) mask)
-      (either Fits (eqb sort 6) _ _
-      (write-fits 4 (length bytes) (setBits (register .value) (natural bytes)) (λ e. set-size (sizeOf (register .kind)) (register .value) (natural bytes) (small) (mask e)))
-      (either Fits (eqb sort 7) _ _
-      (write-fits 4 (length bytes) (clearBits (register .value) (natural bytes)) (λ e. clear-size (sizeOf (register .kind)) (register .value) (natural bytes) (small)))
-      (either Fits (eqb sort 9) _ _
-      (write-fits 4 (length bytes) (toggleBits (register .value) (natural bytes)) (λ e. toggle-size (sizeOf (register .kind)) (register .value) (natural bytes) (small) (mask e)))
-      (small)))))
+      (either Fits (eqb sort 6) _ _ (write-fits 4 (length bytes) (setBits v m) (λ e. set-size size v m small (mask e)))
+      (either Fits (eqb sort 7) _ _ (write-fits 4 (length bytes) (clearBits v m) (λ e. clear-size size v m small))
+      (either Fits (eqb sort 9) _ _ (write-fits 4 (length bytes) (toggleBits v m) (λ e. toggle-size size v m small (mask e))) small))))
     where
+      size : ℕ
+      size = sizeOf (register .kind)
+
+      v : ℕ
+      v = register .value
+
+      m : ℕ
+      m = natural bytes
+
       mask : length bytes ≡ sizeOf (register .kind) → natural bytes < 2 ^ (8 * sizeOf (register .kind))
       mask e = rw e at (natural-lt bytes each)
 
 -- ---- "Show that any two outcomes allowed by it are equal."
 
-pub does-once : (register : Register) (sort : ℕ) (bytes : List ℕ) {a b : Deed} → Does register sort bytes a → Does register sort bytes b → a ≡ b
-does-once register sort bytes p q = p ∙ sym q
+pub does-settled : (register : Register) (sort : ℕ) (bytes : List ℕ) → Settled (Does register sort bytes)
+does-settled register sort bytes = settled _
+
+pub nacks-settled : (value : ℕ) → Settled (Nacks value)
+nacks-settled value = settled _

@@ -4,7 +4,8 @@
 use mathlib.Core.Path.{_≡_}
 use mathlib.Core.Bool.{Bool, cond, _||_, _&&_}
 use mathlib.Core.List.{List}
-use Prim.Native.Nat.{ℕ, _/_, _%_}
+use mathlib.Core.Logic.{_⊎_}
+use Prim.Native.Nat.{ℕ, _/_, _%_, _≤_}
 use lib.Dec.{eqb}
 use lib.ListN.{length}
 use Rattle.values.specs.Values.{sizeOf, natural, setBits, clearBits, toggleBits}
@@ -17,6 +18,26 @@ HasRight register right = register .rights / right % 2 ≡ 1
 
 abbrev pub hasRight : Register → ℕ → Bool
 hasRight register right = eqb (register .rights / right % 2) 1
+
+-- what a right counts in a register's rights: itself where the register has it, else 0
+abbrev pub share : Register → ℕ → ℕ
+share register right = cond (hasRight register right) right 0
+
+-- ---- when each rule applies to a held register
+
+-- "read with the right and no data"
+abbrev pub MayRead : Register → ℕ → List ℕ → Type 0
+MayRead register sort bytes = (sort ≡ 4) × HasRight register 1 × (length bytes ≡ 0)
+
+-- "write with the right and exactly the kind's size of data"
+abbrev pub MayWrite : Register → ℕ → List ℕ → Type 0
+MayWrite register sort bytes = (sort ≡ 5) × HasRight register 2 × (length bytes ≡ sizeOf (register .kind))
+
+-- "set, clear or toggle with right 4 and that size"
+abbrev pub MayChange : Register → ℕ → List ℕ → Type 0
+MayChange register sort bytes = ((sort ≡ 6) ⊎ ((sort ≡ 7) ⊎ (sort ≡ 9))) × HasRight register 4 × (length bytes ≡ sizeOf (register .kind))
+
+-- ---- what a request does
 
 -- "Ack and nack carry the register and no data."
 abbrev pub nack : ℕ → Deed
@@ -53,6 +74,20 @@ Changes sort value mask r = (sort ≡ 6 → r ≡ setBits value mask) × (sort �
 abbrev pub isBitWrite : ℕ → Bool
 isBitWrite sort = eqb sort 6 || (eqb sort 7 || eqb sort 9)
 
--- the contract of `held_deed`
+-- ---- what every deed is
+
+-- the type is at most 9 and there are at most 8 bytes
+abbrev pub Small : Deed → Type 0
+Small deed = (deed .sort ≤ 9) × (deed .size ≤ 8)
+
+-- a nack, an ack or a datagram
+abbrev pub Reply : Deed → Type 0
+Reply deed = (deed .sort ≡ 0) ⊎ ((deed .sort ≡ 3) ⊎ (deed .sort ≡ 8))
+
+-- ---- the contracts
+
 abbrev pub Does : Register → ℕ → List ℕ → Deed → Type 0
 Does register sort bytes r = r ≡ heldDeed register sort bytes
+
+abbrev pub Nacks : ℕ → Deed → Type 0
+Nacks value r = r ≡ nack value

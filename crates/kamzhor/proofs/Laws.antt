@@ -3,7 +3,7 @@
 use mathlib.Core.Path.{_≡_, refl, sym, ap, _∙_, subst}
 use mathlib.Core.Bool.{Bool, true, false}
 use mathlib.Core.List.{List, [], _∷_}
-use mathlib.Core.Logic.{_↔_, _≢_}
+use mathlib.Core.Logic.{_≢_}
 use mathlib.Core.Option.{Option, some, none}
 use Prim.Native.Nat.{ℕ, _-_, _*_, _^_, _≤_, _<_}
 use native.Mathlib.Omega.{arith}
@@ -11,28 +11,29 @@ use native.Mathlib.Decide.{decLt}
 use native.Mathlib.Numerals.{add-one}
 use borrow.Author.Tests.{lt-ltb, le-ltb}
 use lib.IntN.{negℤ, pos}
-use lib.ListN.{length, getD, List·getD-eq-default}
+use lib.ListN.{length, List·getD-eq-default}
 use lib.Pow.{pow-pos}
-use Rattle.rows.specs.Rows.{First, NoRow}
-use Rattle.rows.proofs.Laws.{told-exactly}
-use Rattle.frame.specs.Frame.{messageOf}
+use Rattle.rows.proofs.Settled.{settled, settled-with}
+use Rattle.rows.specs.Settled.{Settled}
+use Rattle.rows.specs.Rows.{passedUp, raised, Numbered}
+use Rattle.rows.proofs.Laws.{numbered}
 use Rattle.remainder.specs.Remainder.{Remains}
-use Rattle.telegram.specs.Read.{readFrame, readRefusal, fieldsOf, dataOf, roomAfter}
+use Rattle.telegram.specs.Read.{readFrame, readRefusal, roomAfter, fieldsIn, dataIn}
 use Rattle.telegram.specs.declared.Fields.{Fields}
 use Rattle.telegram.specs.declared.Fault.the-variants.{NotFramed, StrayEnd, BadSubstitution, ShortMessage, LongMessage, NoRoom, CheckFault, ZeroAddress, UnknownType}
-use Rattle.values.specs.Values.{readValue, sizeOf, isSigned, sizes, valueAt, natural, elementOf, integer}
+use Rattle.values.specs.Values.{readValue, isKind, natural, elementOf, sizeOf, isSigned, sizes, valueAt, integer}
 use Rattle.values.proofs.Sized.{kind-unknown, size-le, half-le, kind-positive, power-half}
 use Rattle.values.proofs.Refusals.{read-is, read-none}
 use Rattle.values.specs.declared.Value.{Value}
 use Rattle.values.specs.declared.Value.the-variants.{Natural, Negative}
-use Rattle.values.proofs.Table.{at}
-use Rattle.kamzhor.specs.Host.{GivesRemainder, GivesFrame, GivesValue, frameNumber, frameGiven, valueNumber, valueFound, valueGiven, isSmall, meant}
+use Rattle.kamzhor.specs.Host.{GivesRemainder, GivesFrame, GivesValue, told, frameNumber, frameGiven, valueNumber, valueFound, valueGiven, isSmall, meant}
 use Rattle.kamzhor.specs.declared.FrameAnswer.{FrameAnswer}
 use Rattle.kamzhor.specs.declared.ValueAnswer.{ValueAnswer}
 use Rattle.telegram.specs.Read as telegram
 use Rattle.telegram.proofs.Ranking as ranking
 use Rattle.telegram.specs.declared.Fault as tfault
 use Rattle.telegram.specs.declared.Reading as treading
+use Rattle.telegram.specs.declared.Reading.the-variants.{Telegram, Refused}
 use Rattle.values.specs.Values as values
 use Rattle.values.proofs.Laws as value-laws
 use Rattle.values.specs.declared.Fault as vfault
@@ -42,14 +43,14 @@ use Rattle.values.specs.declared.Reading.the-variants as vreadings
 
 -- ---- "Show that any two outcomes allowed by it are equal."
 
-pub gives-remainder-once : (bytes : List ℕ) {a b : ℕ} → GivesRemainder bytes a → GivesRemainder bytes b → a ≡ b
-gives-remainder-once bytes p q = p ∙ sym q
+pub gives-remainder-settled : (bytes : List ℕ) → Settled (GivesRemainder bytes)
+gives-remainder-settled bytes = settled _
 
-pub gives-frame-once : (frame room : List ℕ) {a b : FrameAnswer} {x y : List ℕ} → GivesFrame frame room a x → GivesFrame frame room b y → (a ≡ b) × (x ≡ y)
-gives-frame-once frame room p q = (p .0 ∙ sym (q .0), p .1 ∙ sym (q .1))
+pub gives-frame-settled : (frame room : List ℕ) → Settled {A = FrameAnswer × List ℕ} (λ o. GivesFrame frame room (o .0) (o .1))
+gives-frame-settled frame room = settled-with _ _
 
-pub gives-value-once : (kind : ℕ) (bytes : List ℕ) (element : ℕ) {a b : ValueAnswer} → GivesValue kind bytes element a → GivesValue kind bytes element b → a ≡ b
-gives-value-once kind bytes element p q = p ∙ sym q
+pub gives-value-settled : (kind : ℕ) (bytes : List ℕ) (element : ℕ) → Settled (GivesValue kind bytes element)
+gives-value-settled kind bytes element = settled _
 
 -- ---- nothing is cut
 
@@ -86,78 +87,54 @@ pub frame-as-read : (frame room : List ℕ) {q : treading.Reading} {r : FrameAns
     → telegram.Reads frame room q x → GivesFrame frame room r y → (r ≡ frameGiven q) × (y ≡ x)
 frame-as-read frame room p g = (g .0 ∙ ap frameGiven (sym (p .0)), g .1 ∙ sym (p .1))
 
+-- field by field
+pub frame-fields : (frame room : List ℕ) (t : Fields) {r : FrameAnswer} {room′ : List ℕ} → GivesFrame frame room r room′ → readFrame frame (length room) ≡ Telegram t
+    → (r .refusal ≡ 0) × (r .destination ≡ t .destination) × (r .source ≡ t .source) × (r .sort ≡ t .sort) × (r .register ≡ t .register) × (r .size ≡ t .size)
+frame-fields frame room t gives read = rw (gives .0 ∙ ap frameGiven read) (refl, refl, refl, refl, refl, refl)
+
 pub value-as-read : (kind : ℕ) (bytes : List ℕ) (element : ℕ) {q : vreading.Reading} {r : ValueAnswer}
     → values.Reads kind bytes element q → GivesValue kind bytes element r → r ≡ valueGiven q
 value-as-read kind bytes element p g = g ∙ ap valueGiven (sym p)
 
 -- ---- the number is the paper's: "Each is given exactly when its condition holds and no earlier one does."
 
--- the rows by their numbers: no two have the same, and none has 0
-framesBy : List tfault.Fault
-framesBy =
-    NotFramed ∷ NotFramed ∷ StrayEnd ∷ BadSubstitution ∷ ShortMessage ∷ LongMessage ∷ NoRoom ∷ CheckFault ∷ ZeroAddress ∷ UnknownType ∷ []
+-- no row has 0
+frame-told : (o : Option tfault.Fault) (t : Fields) → told (frameGiven (telegram.readAnswer o t) .refusal) ≡ raised telegram.faultNumber o
+frame-told none t = refl
+frame-told (some NotFramed) t = refl
+frame-told (some StrayEnd) t = refl
+frame-told (some BadSubstitution) t = refl
+frame-told (some ShortMessage) t = refl
+frame-told (some LongMessage) t = refl
+frame-told (some NoRoom) t = refl
+frame-told (some CheckFault) t = refl
+frame-told (some ZeroAddress) t = refl
+frame-told (some UnknownType) t = refl
 
-frame-back : (f : tfault.Fault) → (getD framesBy (telegram.faultNumber f) NotFramed ≡ f) × (0 < telegram.faultNumber f)
-unfolding framesBy
-frame-back NotFramed = (refl, omega arith)
-frame-back StrayEnd = (refl, omega arith)
-frame-back BadSubstitution = (refl, omega arith)
-frame-back ShortMessage = (refl, omega arith)
-frame-back LongMessage = (refl, omega arith)
-frame-back NoRoom = (refl, omega arith)
-frame-back CheckFault = (refl, omega arith)
-frame-back ZeroAddress = (refl, omega arith)
-frame-back UnknownType = (refl, omega arith)
+value-told : (o : Option vfault.Fault) (v : Value) → told (valueGiven (values.readAnswer o v) .refusal) ≡ raised values.faultNumber o
+value-told none v = refl
+value-told (some vfaults.UnknownKind) v = refl
+value-told (some vfaults.WrongLength) v = refl
+value-told (some vfaults.NoSuchElement) v = refl
+value-told (some vfaults.DoesNotFit) v = refl
+value-told (some vfaults.ShortBuffer) v = refl
 
-frame-one : (f g : tfault.Fault) → telegram.faultNumber f ≡ telegram.faultNumber g → f ≡ g
-frame-one f g e = sym (frame-back f .0) ∙ ap (λ (n : ℕ). getD framesBy n NotFramed) e ∙ frame-back g .0
-
-frame-some : (f : tfault.Fault) → _≡_ {A = ℕ} 0 (telegram.faultNumber f) → ⊥
-frame-some f e = omega (arith, frame-back f .1)
-
-valuesBy : List vfault.Fault
-valuesBy = vfaults.UnknownKind ∷ vfaults.WrongLength ∷ vfaults.NoSuchElement ∷ vfaults.DoesNotFit ∷ vfaults.ShortBuffer ∷ []
-
-value-back : (f : vfault.Fault) → (getD valuesBy (values.faultNumber f - 40) vfaults.UnknownKind ≡ f) × (0 < values.faultNumber f)
-unfolding valuesBy
-value-back vfaults.UnknownKind = (refl, omega arith)
-value-back vfaults.WrongLength = (refl, omega arith)
-value-back vfaults.NoSuchElement = (refl, omega arith)
-value-back vfaults.DoesNotFit = (refl, omega arith)
-value-back vfaults.ShortBuffer = (refl, omega arith)
-
-value-one : (f g : vfault.Fault) → values.faultNumber f ≡ values.faultNumber g → f ≡ g
-value-one f g e = sym (value-back f .0) ∙ ap (λ (n : ℕ). getD valuesBy (n - 40) vfaults.UnknownKind) e ∙ value-back g .0
-
-value-some : (f : vfault.Fault) → _≡_ {A = ℕ} 0 (values.faultNumber f) → ⊥
-value-some f e = omega (arith, value-back f .1)
-
--- the reader's rows, for each number and for 0
+-- the reader's rows, by their numbers
 pub frame-exactly : (frame room : List ℕ) {r : FrameAnswer} {room′ : List ℕ} → GivesFrame frame room r room′
-    → ((f : tfault.Fault) → (r .refusal ≡ telegram.faultNumber f) ↔ First (telegram.readRows frame (length room)) f)
-    × ((r .refusal ≡ 0) ↔ NoRow (telegram.readRows frame (length room)))
-unfolding readFrame
-frame-exactly frame room g =
-    subst
-    (λ (n : ℕ). ((f : tfault.Fault) → (n ≡ telegram.faultNumber f) ↔ First (telegram.readRows frame (length room)) f)
-    × ((n ≡ 0) ↔ NoRow (telegram.readRows frame (length room))))
-    (sym (ap (λ (a : FrameAnswer). a .refusal) (g .0)))
-    (told-exactly (λ (o : Option tfault.Fault). frameGiven (telegram.readAnswer o (fieldsOf (messageOf frame))) .refusal) telegram.faultNumber
-    (λ f. refl) frame-one frame-some (telegram.readRows frame (length room)) (readRefusal frame (length room)) (ranking.read-ranked frame (length room)))
+    → Numbered (passedUp telegram.faultNumber (telegram.readRows frame (length room))) (1 ∷ 2 ∷ 3 ∷ 4 ∷ 5 ∷ 6 ∷ 7 ∷ 8 ∷ 9 ∷ []) (told (r .refusal))
+unfolding telegram.readRows readFrame
+frame-exactly frame room gives =
+    numbered telegram.faultNumber (telegram.readRows frame (length room)) (readRefusal frame (length room)) (ranking.read-ranked frame (length room))
+    (1 ∷ 2 ∷ 3 ∷ 4 ∷ 5 ∷ 6 ∷ 7 ∷ 8 ∷ 9 ∷ []) refl refl _
+    (ap (λ (a : FrameAnswer). told (a .refusal)) (gives .0) ∙ frame-told (readRefusal frame (length room)) _)
 
 pub value-exactly : (kind : ℕ) (bytes : List ℕ) (element : ℕ) {r : ValueAnswer} → GivesValue kind bytes element r
-    → ((f : vfault.Fault) → (r .refusal ≡ values.faultNumber f) ↔ First (values.readRows kind bytes element) f)
-    × ((r .refusal ≡ 0) ↔ NoRow (values.readRows kind bytes element))
-unfolding readValue
-value-exactly kind bytes element g =
-    subst
-    (λ (n : ℕ). ((f : vfault.Fault) → (n ≡ values.faultNumber f) ↔ First (values.readRows kind bytes element) f)
-    × ((n ≡ 0) ↔ NoRow (values.readRows kind bytes element)))
-    (sym (ap (λ (a : ValueAnswer). a .refusal) g))
-    (told-exactly
-    (λ (o : Option vfault.Fault). valueGiven (values.readAnswer o (valueAt (isSigned kind) (sizeOf kind) (natural (elementOf (sizeOf kind) bytes element)))) .refusal)
-    values.faultNumber (λ f. refl) value-one value-some (values.readRows kind bytes element) (values.readRefusal kind bytes element)
-    (value-laws.read-ranked kind bytes element))
+    → Numbered (passedUp values.faultNumber (values.readRows kind bytes element)) (40 ∷ 41 ∷ 42 ∷ []) (told (r .refusal))
+unfolding values.readRows readValue
+value-exactly kind bytes element gives =
+    numbered values.faultNumber (values.readRows kind bytes element) (values.readRefusal kind bytes element) (value-laws.read-ranked kind bytes element)
+    (40 ∷ 41 ∷ 42 ∷ []) refl refl _
+    (ap (λ (a : ValueAnswer). told (a .refusal)) gives ∙ value-told (values.readRefusal kind bytes element) _)
 
 -- ---- "It returns its number only, and every buffer [is] as before."
 
@@ -170,7 +147,7 @@ pub frame-refused : (frame room : List ℕ) {r : FrameAnswer} {room′ : List �
     → (r ≡ frameNumber (r .refusal)) × (room′ ≡ room)
 unfolding readFrame
 frame-refused frame room {r} g n =
-    let only = only-frame (readRefusal frame (length room)) (fieldsOf (messageOf frame)) (dataOf (messageOf frame)) room (rw (g .0) at n) in
+    let only = only-frame (readRefusal frame (length room)) (fieldsIn frame) (dataIn frame) room (rw (g .0) at n) in
     (subst (λ (a : FrameAnswer). a ≡ frameNumber (a .refusal)) (sym (g .0)) (only .0), g .1 ∙ only .1)
 
 only-value : (q : vreading.Reading) → valueGiven q .refusal ≢ 0 → valueGiven q ≡ valueNumber (valueGiven q .refusal)
@@ -182,7 +159,40 @@ pub value-refused : (kind : ℕ) (bytes : List ℕ) (element : ℕ) {r : ValueAn
 value-refused kind bytes element g n =
     subst (λ (a : ValueAnswer). a ≡ valueNumber (a .refusal)) (sym g) (only-value (readValue kind bytes element) (λ e. n (ap (λ (a : ValueAnswer). a .refusal) g ∙ e)))
 
+-- every other field is then 0
+pub frame-number-only : (frame room : List ℕ) {r : FrameAnswer} {room′ : List ℕ} → GivesFrame frame room r room′ → r .refusal ≢ 0
+    → (r .destination ≡ 0) × (r .source ≡ 0) × (r .sort ≡ 0) × (r .register ≡ 0) × (r .size ≡ 0) × (r .place ≡ 0)
+frame-number-only frame room {r} g n =
+    let is : r ≡ frameNumber (r .refusal) = frame-refused frame room g n .0 in (
+      ap (λ (a : FrameAnswer). a .destination) is,
+      ap (λ (a : FrameAnswer). a .source) is,
+      ap (λ (a : FrameAnswer). a .sort) is,
+      ap (λ (a : FrameAnswer). a .register) is,
+      ap (λ (a : FrameAnswer). a .size) is,
+      ap (λ (a : FrameAnswer). a .place) is,
+    )
+
+pub value-number-only : (kind : ℕ) (bytes : List ℕ) (element : ℕ) {r : ValueAnswer} → GivesValue kind bytes element r → r .refusal ≢ 0
+    → (r .negative ≡ 0) × (r .magnitude ≡ 0)
+value-number-only kind bytes element {r} g n =
+    let is : r ≡ valueNumber (r .refusal) = value-refused kind bytes element g n in
+    (ap (λ (a : ValueAnswer). a .negative) is, ap (λ (a : ValueAnswer). a .magnitude) is)
+
+-- `place` is 0 today, in every answer
+place-none : (q : treading.Reading) → frameGiven q .place ≡ 0
+place-none (Refused f) = refl
+place-none (Telegram t) = refl
+
+pub frame-place : (frame room : List ℕ) {r : FrameAnswer} {room′ : List ℕ} → GivesFrame frame room r room′ → r .place ≡ 0
+frame-place frame room g = ap (λ (a : FrameAnswer). a .place) (g .0) ∙ place-none (readFrame frame (length room))
+
 -- ---- signed and unsigned values arrive without loss
+
+-- computed: T9's -32768, and 32768 from the same bytes
+pub signs-told : (valueGiven (readValue 4 (0x00 ∷ 0x80 ∷ []) 0) ≡ record { refusal = 0; negative = 1; magnitude = 32768 })
+    × (valueGiven (readValue 3 (0x00 ∷ 0x80 ∷ []) 0) ≡ record { refusal = 0; negative = 0; magnitude = 32768 })
+unfolding readValue values.readRefusal isKind sizeOf isSigned valueAt natural elementOf
+signs-told = (refl, refl)
 
 meant-found : (v : Value) → meant (valueFound v) ≡ integer v
 unfolding integer

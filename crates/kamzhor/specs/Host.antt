@@ -3,13 +3,13 @@
 use mathlib.Core.Path.{_≡_}
 use mathlib.Core.Bool.{cond}
 use mathlib.Core.List.{List}
+use mathlib.Core.Option.{Option, some, none}
 use Prim.Native.Nat.{ℕ, _+_, _^_, _<_}
 use lib.Dec.{eqb}
 use lib.IntN.{ℤ, pos, negℤ}
 use lib.ListN.{length}
 use Rattle.remainder.specs.Remainder.{remainderOf}
-use Rattle.frame.specs.Frame.{messageOf}
-use Rattle.telegram.specs.Read.{readFrame, readRefusal, roomAfter, dataOf}
+use Rattle.telegram.specs.Read.{readFrame, readRefusal, roomAfter, dataIn}
 use Rattle.telegram.specs.declared.Fields.{Fields}
 use Rattle.telegram.specs.declared.Reading.the-variants.{Telegram, Refused}
 use Rattle.values.specs.Values.{readValue}
@@ -22,6 +22,10 @@ use Rattle.telegram.specs.declared.Reading as treading
 use Rattle.values.specs.Values as values
 use Rattle.values.specs.declared.Reading as vreading
 use Rattle.values.specs.declared.Reading.the-variants as vreadings
+
+-- the number that an answer tells: none where its refusal is 0
+abbrev pub told : ℕ → Option ℕ
+told refusal = cond (eqb refusal 0) none (some refusal)
 
 -- ---- the frame reader
 
@@ -84,7 +88,7 @@ GivesRemainder bytes r = r ≡ remainderOf bytes
 abbrev pub GivesFrame : List ℕ → List ℕ → FrameAnswer → List ℕ → Type 0
 GivesFrame frame room r room′ =
     (r ≡ frameGiven (readFrame frame (length room)))
-    × (room′ ≡ roomAfter (readRefusal frame (length room)) (dataOf (messageOf frame)) room)
+    × (room′ ≡ roomAfter (readRefusal frame (length room)) (dataIn frame) room)
 
 -- `kamzhor_read_value`: `kind` and `element` are any numbers
 abbrev pub GivesValue : ℕ → List ℕ → ℕ → ValueAnswer → Type 0

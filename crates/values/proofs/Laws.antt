@@ -2,31 +2,38 @@
 -- Assumes nothing.
 use mathlib.Core.Path.{_≡_, refl, sym, ap, _∙_, subst}
 use mathlib.Core.Bool.{Bool, true, false}
-use mathlib.Core.List.{List, [], _∷_}
-use mathlib.Core.Logic.{_↔_}
-use mathlib.Core.Option.{Option, none}
-use Prim.Native.Nat.{ℕ, zero, suc, _+_, _-_, _*_, _/_, _^_, _≤_, _<_}
-use native.Mathlib.Nat.{mod-lt, lt-of-le-of-lt}
+use mathlib.Core.List.{List, [], _∷_, _++_}
+use mathlib.Core.Logic.{_↔_, ⊎-elim}
+use mathlib.Core.Option.{Option, some, none}
+use Prim.Native.Nat.{ℕ, zero, suc, _+_, _-_, _*_, _/_, _%_, _^_, _≤_, _<_}
+use native.Mathlib.Nat.{mod-lt, mod-eq-of-lt, lt-of-le-of-lt}
 use native.Mathlib.Omega.{arith}
-use borrow.Author.Tests.{lt-ltb}
+use borrow.Author.Tests.{lt-ltb, not-false, eqb-true, eq-eqb}
 use lib.Bits.{bitAnd, bitOr, bitXor, and-shr, and-mod, or-shr, or-mod, xor-shr, xor-mod, or-lt, xor-lt, and-le-l, or-zero-r, and-zero-r, xor-zero-r}
 use lib.IntN.{pos, negsuc, _-ℤ_}
 use lib.ListN.{length, getD, take, drop}
+use lib.Pow.{mod-pow-add}
+use lib.Seq.{take-all}
+use Rattle.rows.proofs.Settled.{settled, settled-with}
+use Rattle.rows.specs.Settled.{Settled}
 use Rattle.lent.specs.Lent.{overAt}
-use Rattle.lent.proofs.Laws.{take-over, length-overAt}
-use Rattle.rows.specs.Rows.{First, NoRow, Ranked}
-use Rattle.rows.proofs.Laws.{decides-eq, decides-lt, decides-not, decides-or, ranked, _otherwise_, told-exactly, clash}
-use Rattle.values.specs.Values.{NoKind, BadLength, NoElement, Unfit, NoRoom, readTests, storedTests, writeTests, readRows, storedRows, writeRows, readAnswer, storedAnswer, writeAnswer, storedValue, writeRefusal, Bytes, Held, Holds, natural, bytesOf, integer, valueAt, storedAt, sizeOf, isSigned, isKind, elementOf, readRefusal, readValue, storedRefusal, setBits, clearBits, toggleBits, bitAt, Numbers, Sizes, Loads, Stores, Keeps, Reads, Writes, Sets, Clears, Toggles, TestsBit}
+use Rattle.lent.proofs.Laws.{take-over, over-is, length-overAt}
+use Rattle.rows.specs.Rows.{Ranked, passedUp, raised, Numbered}
+use Rattle.rows.proofs.Laws.{decides-eq, decides-lt, decides-not, decides-or, ranked, _otherwise_, numbered, done-exactly, told-true, told-false}
+use Rattle.values.specs.Values.{sizeOf, isSigned, isKind, natural, bytesOf, integer, valueAt, storedAt, elementOf, Bytes, Held, Holds, Within, endsOf}
+use Rattle.values.specs.Values.{NoKind, BadLength, NoElement, Unfit, NoRoom, readRows, storedRows, writeRows, faultNumber, readTests, storedTests, writeTests}
+use Rattle.values.specs.Values.{readRefusal, readAnswer, readTold, readValue, storedRefusal, storedAnswer, storedTold, storedValue, writeRefusal, writeAnswer, writeTold}
+use Rattle.values.specs.Values.{setBits, clearBits, toggleBits, bitAt, weighed, Numbers, Sizes, Loads, Stores, Keeps, Reads, Writes, Sets, Clears, Toggles, TestsBit}
 use Rattle.values.specs.declared.Value.{Value}
 use Rattle.values.specs.declared.Fault.{Fault}
 use Rattle.values.specs.declared.Stored.{Stored}
 use Rattle.values.specs.declared.Reading.{Reading}
 use Rattle.values.specs.declared.Writing.{Writing}
 use Rattle.values.proofs.Bytes.{natural-lt, bytes-element, length-element, element-lt, length-bytesOf, bytes-bytesOf, natural-bytesOf, bytesOf-natural, byte-at}
-use Rattle.values.proofs.Sized.{stored-back, value-back, value-low, value-high, kind-positive}
+use Rattle.values.proofs.Sized.{size-of-kind, stored-back, value-back, value-low, value-high, kind-positive}
 use Rattle.values.proofs.Bits.{run, byte-run, not-run, or-one, and-one, xor-one}
 use Rattle.values.proofs.Refusals.{decides-kind, decides-length, decides-fits, stored-none, stored-so, read-none, read-same-length, read-is, write-is}
-use Rattle.values.proofs.Table.{at}
+use Rattle.values.proofs.Ends.{decides-within}
 use Rattle.values.specs.declared.Stored.the-variants as stored
 use Rattle.values.specs.declared.Reading.the-variants as reading
 use Rattle.values.specs.declared.Writing.the-variants as writing
@@ -56,32 +63,41 @@ write-ranked kind value room =
     decides-not (decides-fits kind value) otherwise λ n₄₃.
     decides-lt _ _ otherwise λ n₄₄. tt)
 
--- and so of the calls' answers, both ways: `.0` for each number, `.1` for none
-pub read-exactly : (kind : ℕ) (bytes : List ℕ) (element : ℕ)
-    → ((f : Fault) → (readValue kind bytes element ≡ reading.Refused f) ↔ First (readRows kind bytes element) f)
-    × ((readValue kind bytes element ≡ reading.Is (valueAt (isSigned kind) (sizeOf kind) (natural (elementOf (sizeOf kind) bytes element))))
-    ↔ NoRow (readRows kind bytes element))
-unfolding readValue
-read-exactly kind bytes element =
-    told-exactly (λ (o : Option Fault). readAnswer o (valueAt (isSigned kind) (sizeOf kind) (natural (elementOf (sizeOf kind) bytes element)))) reading.Refused
-    (λ f. refl) (λ f g e. cc) (λ f e. clash (cc)) (readRows kind bytes element) (readRefusal kind bytes element) (read-ranked kind bytes element)
+-- and so of the calls, by the paper's numbers
+pub read-exactly : (kind : ℕ) (bytes : List ℕ) (element : ℕ) {r : Reading} → Reads kind bytes element r
+    → Numbered (passedUp faultNumber (readRows kind bytes element)) (40 ∷ 41 ∷ 42 ∷ []) (readTold r)
+unfolding readRows readValue
+read-exactly kind bytes element reads =
+    numbered faultNumber (readRows kind bytes element) (readRefusal kind bytes element) (read-ranked kind bytes element)
+    (40 ∷ 41 ∷ 42 ∷ []) refl refl _ (ap readTold reads ∙ told (readRefusal kind bytes element) _)
+  where
+    told : (o : Option Fault) (v : Value) → readTold (readAnswer o v) ≡ raised faultNumber o
+    told (some f) v = refl
+    told none v = refl
 
-pub stored-exactly : (kind : ℕ) (value : Value)
-    → ((f : Fault) → (storedValue kind value ≡ stored.Refused f) ↔ First (storedRows kind value) f)
-    × ((storedValue kind value ≡ stored.As (storedAt (sizeOf kind) value)) ↔ NoRow (storedRows kind value))
-unfolding storedValue
-stored-exactly kind value =
-    told-exactly (λ (o : Option Fault). storedAnswer o (storedAt (sizeOf kind) value)) stored.Refused
-    (λ f. refl) (λ f g e. cc) (λ f e. clash (cc)) (storedRows kind value) (storedRefusal kind value) (stored-ranked kind value)
+pub stored-exactly : (kind : ℕ) (value : Value) {r : Stored} → Keeps kind value r
+    → Numbered (passedUp faultNumber (storedRows kind value)) (40 ∷ 43 ∷ []) (storedTold r)
+unfolding storedRows storedValue
+stored-exactly kind value keeps =
+    numbered faultNumber (storedRows kind value) (storedRefusal kind value) (stored-ranked kind value)
+    (40 ∷ 43 ∷ []) refl refl _ (ap storedTold keeps ∙ told (storedRefusal kind value) _)
+  where
+    told : (o : Option Fault) (v : ℕ) → storedTold (storedAnswer o v) ≡ raised faultNumber o
+    told (some f) v = refl
+    told none v = refl
 
-pub write-exactly : (kind : ℕ) (value : Value) (room : List ℕ)
-    → ((f : Fault) → (writeAnswer (writeRefusal kind value (length room)) ≡ writing.Refused f) ↔ First (writeRows kind value room) f)
-    × ((writeAnswer (writeRefusal kind value (length room)) ≡ writing.Done) ↔ NoRow (writeRows kind value room))
-write-exactly kind value room =
-    told-exactly writeAnswer writing.Refused (λ f. refl) (λ f g e. cc) (λ f e. clash (cc)) (writeRows kind value room)
-    (writeRefusal kind value (length room)) (write-ranked kind value room)
+pub write-exactly : (kind : ℕ) (value : Value) (room : List ℕ) {r : Writing} {room′ : List ℕ} → Writes kind value room r room′
+    → Numbered (passedUp faultNumber (writeRows kind value room)) (40 ∷ 43 ∷ 44 ∷ []) (writeTold r)
+unfolding writeRows
+write-exactly kind value room writes =
+    numbered faultNumber (writeRows kind value room) (writeRefusal kind value (length room)) (write-ranked kind value room)
+    (40 ∷ 43 ∷ 44 ∷ []) refl refl _ (ap writeTold (writes .0) ∙ told (writeRefusal kind value (length room)))
+  where
+    told : (o : Option Fault) → writeTold (writeAnswer o) ≡ raised faultNumber o
+    told (some f) = refl
+    told none = refl
 
--- ---- "a value fits exactly when the kind can hold it"
+-- ---- a value fits exactly when the kind can hold it
 
 pub fits-exactly : (signed : Bool) (n : ℕ) (value : Value) → 0 < n → Holds signed n value ↔ Held signed n value
 fits-exactly signed n value p = (there, back)
@@ -111,6 +127,26 @@ kept-exactly kind value k = (
     exactly : Holds (isSigned kind) (sizeOf kind) value ↔ Held (isSigned kind) (sizeOf kind) value
     exactly = fits-exactly (isSigned kind) (sizeOf kind) value (kind-positive kind k)
 
+-- and by the kind's ends in plain figures
+pub fits-between : (kind : ℕ) (value : Value) → 1 ≤ kind → kind ≤ 7 → (Unfit kind value → ⊥) ↔ Within (endsOf kind) (integer value)
+unfolding Unfit
+fits-between kind value low high =
+    let within = decides-within kind value low high in (
+      λ h. within .so (not-false _ (told-false (decides-not (decides-fits kind value)) h)),
+      λ w h. h (decides-fits kind value .so (told-true within w)),
+    )
+
+-- so what a register of that kind keeps
+pub kept-between : (kind : ℕ) (value : Value) {r : Stored} → 1 ≤ kind → kind ≤ 7 → Keeps kind value r
+    → (storedTold r ≡ none) ↔ Within (endsOf kind) (integer value)
+unfolding storedRows NoKind
+kept-between kind value low high keeps =
+    let between = fits-between kind value low high in
+    let exactly = stored-exactly kind value keeps .done in (
+      λ e. between .0 (exactly .0 e .1 .0),
+      λ w. exactly .1 ((λ n. n (low, high)), (between .1 w, tt)),
+    )
+
 -- ---- "Lowest byte first; signed kinds are two's complement."
 
 pub integer-unsigned : (n v : ℕ) → integer (valueAt false n v) ≡ pos v
@@ -131,16 +167,45 @@ integer-high n v h l = sym (ap integer (value-high true n v refl h)) ∙ sym (be
         let same : suc m - suc v ≡ suc m - 1 - v = omega arith in
         rw (lt-ltb v (suc m) l) (ap negsuc same)
 
--- ---- "a written value reads back the same, at every element"
+-- ---- a written value reads back the same, at every element
+
+-- the number that a kind keeps of a value has as many bytes as the kind, and they mean the value
+pub stored-means : (kind : ℕ) (value : Value) → storedRefusal kind value ≡ none
+    → (storedAt (sizeOf kind) value < 2 ^ (8 * sizeOf kind)) × (valueAt (isSigned kind) (sizeOf kind) (storedAt (sizeOf kind) value) ≡ value)
+stored-means kind value s =
+    let kept = stored-none kind value s in
+    stored-back (isSigned kind) (sizeOf kind) value (kind-positive kind (kept .0)) (decides-fits kind value .so (kept .1))
 
 -- the value of whatever bytes stand at the element
 pub reads-element : (kind : ℕ) (value : Value) (bytes : List ℕ) (element : ℕ) → storedRefusal kind value ≡ none → readRefusal kind bytes element ≡ none
     → elementOf (sizeOf kind) bytes element ≡ bytesOf (sizeOf kind) (storedAt (sizeOf kind) value) → readValue kind bytes element ≡ reading.Is value
 unfolding readValue
 reads-element kind value bytes element s r e =
-    let kept = stored-none kind value s in
-    let back = stored-back (isSigned kind) (sizeOf kind) value (kind-positive kind (kept .0)) (decides-fits kind value .so (kept .1)) in
-    rw (r, e, natural-bytesOf (sizeOf kind) (storedAt (sizeOf kind) value) (back .0)) (ap reading.Is (back .1))
+    let means = stored-means kind value s in
+    rw (r, e, natural-bytesOf (sizeOf kind) (storedAt (sizeOf kind) value) (means .0)) (ap reading.Is (means .1))
+
+-- bytes that are one element
+pub reads-whole : (kind : ℕ) (bytes : List ℕ) → 1 ≤ kind → kind ≤ 7 → length bytes ≡ sizeOf kind
+    → readValue kind bytes 0 ≡ reading.Is (valueAt (isSigned kind) (sizeOf kind) (natural bytes))
+unfolding readValue readRows NoKind BadLength NoElement elementOf
+reads-whole kind bytes low high many =
+    let some : 1 ≤ sizeOf kind = size-of-kind kind low high .0 in
+    let no : readRefusal kind bytes 0 ≡ none =
+    done-exactly (readRows kind bytes 0) (readRefusal kind bytes 0) (read-ranked kind bytes 0) .1 (
+      (λ n. n (low, high)),
+      (⊎-elim (λ z. omega (arith, many, some)) (λ n. n (1, omega (arith, many))), ((λ l. omega (arith, many)), tt)),
+    ) in
+    let start : 0 * sizeOf kind ≡ 0 = omega arith in
+    rw (no, start, take-all (sizeOf kind) bytes (omega (arith, many)))
+
+-- so what a kind keeps of a value is read as that value
+pub stored-reads : (kind : ℕ) (value : Value) → storedRefusal kind value ≡ none
+    → readValue kind (bytesOf (sizeOf kind) (storedAt (sizeOf kind) value)) 0 ≡ reading.Is value
+stored-reads kind value s =
+    let means = stored-means kind value s in
+    let range = decides-kind kind .so (stored-none kind value s .0) in
+    reads-whole kind _ (range .0) (range .1) (length-bytesOf (sizeOf kind) (storedAt (sizeOf kind) value))
+    ∙ ap reading.Is (ap (valueAt (isSigned kind) (sizeOf kind)) (natural-bytesOf (sizeOf kind) _ (means .0)) ∙ means .1)
 
 -- what is laid over the bytes of an element is that element
 pub element-laid : (size : ℕ) (xs bytes : List ℕ) (element : ℕ) → length xs ≡ size → (element + 1) * size ≤ length bytes
@@ -173,7 +238,7 @@ written-reads kind value room room′ bytes element w found e r =
     let done = write-is kind value room room′ w in
     r ∙ reads-element kind value bytes element (done .0) found (e ∙ done .1)
 
--- ---- "read bytes written again are the same bytes"
+-- ---- read bytes written again are the same bytes
 
 pub element-stored : (kind : ℕ) (value : Value) (bytes : List ℕ) (element : ℕ) → Bytes bytes → readValue kind bytes element ≡ reading.Is value
     → (storedRefusal kind value ≡ none) × (bytesOf (sizeOf kind) (storedAt (sizeOf kind) value) ≡ elementOf (sizeOf kind) bytes element)
@@ -210,6 +275,22 @@ read-writes kind value bytes element room room′ each r w =
     write-is kind value room room′ w .1 ∙ element-stored kind value bytes element each (sym r) .1
 
 -- ---- "A one in the mask sets, clears or inverts that bit, a zero keeps it": bit by bit
+
+lowest-bits : (v n : ℕ) → weighed (bitAt v) n ≡ v % 2 ^ n
+unfolding weighed
+lowest-bits v zero = omega arith
+lowest-bits v (suc n) =
+    let one-more : suc n ≡ 1 + n = omega arith in
+    let ih : weighed (bitAt v) n ≡ v % 2 ^ n = lowest-bits v n in
+    rw (one-more) (omega (arith, mod-pow-add v 1 n, ih))
+
+-- a number is what its bits weigh
+pub bits-weigh : (v n : ℕ) → v < 2 ^ n → weighed (bitAt v) n ≡ v
+bits-weigh v n h = lowest-bits v n ∙ mod-eq-of-lt h
+
+-- and `bit` tells which are ones
+pub bit-told : (v place : ℕ) {r : Bool} → TestsBit v place r → (r ≡ true) ↔ (bitAt v place ≡ 1)
+bit-told v place tests = (λ e. eqb-true (bitAt v place) 1 (sym tests ∙ e), λ e. tests ∙ eq-eqb (bitAt v place) 1 e)
 
 bit-lt : (v k : ℕ) → bitAt v k < 2
 bit-lt v k = mod-lt (v / 2 ^ k) (omega arith)
@@ -265,42 +346,53 @@ pub toggle-byte : (n j v mask : ℕ) → j < n
     → getD (bytesOf n (toggleBits v mask)) j 0 ≡ bitXor (getD (bytesOf n v) j 0) (getD (bytesOf n mask) j 0)
 toggle-byte = byte-run bitXor xor-shr xor-mod
 
+-- ---- up to 8 bytes are loaded whole
+
+pub loads-all : (bytes : List ℕ) {r : ℕ} → length bytes ≤ 8 → Loads bytes r → r ≡ natural bytes
+loads-all bytes h loads = loads ∙ ap natural (take-all 8 bytes h)
+
+-- ---- and stored as many bytes as were asked; the rest of the buffer stays
+
+pub stores-lays : (v size : ℕ) (room : List ℕ) {room′ : List ℕ} → size ≤ length room → Stores v size room room′ → room′ ≡ bytesOf size v ++ drop size room
+stores-lays v size room h stores =
+    let many : length (bytesOf size v) ≡ size = length-bytesOf size v in
+    stores ∙ over-is (bytesOf size v) room (omega (arith, many)) ∙ ap (λ (n : ℕ). bytesOf size v ++ drop n room) many
+
 -- ---- "Show that any two outcomes allowed by it are equal."
 
--- what two answers equal, they equal each other by
-once : {A : Type 0} {x a b : A} → a ≡ x → b ≡ x → a ≡ b
-once p q = p ∙ sym q
+-- the call `number` gives the number that the laws tell
+pub number-is : (f : Fault) (r : ℕ) → Numbers f r → r ≡ faultNumber f
+number-is f r p = p
 
-pub numbers-once : (fault : Fault) {a b : ℕ} → Numbers fault a → Numbers fault b → a ≡ b
-numbers-once fault = once
+pub numbers-settled : (fault : Fault) → Settled (Numbers fault)
+numbers-settled fault = settled _
 
-pub sizes-once : (kind : ℕ) {a b : ℕ} → Sizes kind a → Sizes kind b → a ≡ b
-sizes-once kind = once
+pub sizes-settled : (kind : ℕ) → Settled (Sizes kind)
+sizes-settled kind = settled _
 
-pub loads-once : (bytes : List ℕ) {a b : ℕ} → Loads bytes a → Loads bytes b → a ≡ b
-loads-once bytes = once
+pub loads-settled : (bytes : List ℕ) → Settled (Loads bytes)
+loads-settled bytes = settled _
 
-pub stores-once : (v size : ℕ) (room : List ℕ) {a b : List ℕ} → Stores v size room a → Stores v size room b → a ≡ b
-stores-once v size room = once
+pub stores-settled : (v size : ℕ) (room : List ℕ) → Settled (Stores v size room)
+stores-settled v size room = settled _
 
-pub keeps-once : (kind : ℕ) (value : Value) {a b : Stored} → Keeps kind value a → Keeps kind value b → a ≡ b
-keeps-once kind value = once
+pub keeps-settled : (kind : ℕ) (value : Value) → Settled (Keeps kind value)
+keeps-settled kind value = settled _
 
-pub reads-once : (kind : ℕ) (bytes : List ℕ) (element : ℕ) {a b : Reading} → Reads kind bytes element a → Reads kind bytes element b → a ≡ b
-reads-once kind bytes element = once
+pub reads-settled : (kind : ℕ) (bytes : List ℕ) (element : ℕ) → Settled (Reads kind bytes element)
+reads-settled kind bytes element = settled _
 
-pub writes-once : (kind : ℕ) (value : Value) (room : List ℕ) {a b : Writing} {d e : List ℕ}
-    → Writes kind value room a d → Writes kind value room b e → (a ≡ b) × (d ≡ e)
-writes-once kind value room p q = (once (p .0) (q .0), once (p .1) (q .1))
+pub writes-settled : (kind : ℕ) (value : Value) (room : List ℕ) → Settled {A = Writing × List ℕ} (λ o. Writes kind value room (o .0) (o .1))
+writes-settled kind value room = settled-with _ _
 
-pub sets-once : (v mask : ℕ) {a b : ℕ} → Sets v mask a → Sets v mask b → a ≡ b
-sets-once v mask = once
+pub sets-settled : (v mask : ℕ) → Settled (Sets v mask)
+sets-settled v mask = settled _
 
-pub clears-once : (v mask : ℕ) {a b : ℕ} → Clears v mask a → Clears v mask b → a ≡ b
-clears-once v mask = once
+pub clears-settled : (v mask : ℕ) → Settled (Clears v mask)
+clears-settled v mask = settled _
 
-pub toggles-once : (v mask : ℕ) {a b : ℕ} → Toggles v mask a → Toggles v mask b → a ≡ b
-toggles-once v mask = once
+pub toggles-settled : (v mask : ℕ) → Settled (Toggles v mask)
+toggles-settled v mask = settled _
 
-pub tests-bit-once : (v place : ℕ) {a b : Bool} → TestsBit v place a → TestsBit v place b → a ≡ b
-tests-bit-once v place = once
+pub tests-bit-settled : (v place : ℕ) → Settled (TestsBit v place)
+tests-bit-settled v place = settled _

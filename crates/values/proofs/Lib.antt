@@ -3,4 +3,5 @@ pub mod Bytes
 pub mod Sized
 pub mod Bits
 pub mod Refusals
+pub mod Ends
 pub mod Laws

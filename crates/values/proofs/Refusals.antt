@@ -14,7 +14,8 @@ use lib.Pow.{pow-pos}
 use Rattle.lent.specs.Lent.{over}
 use Rattle.lent.proofs.Laws.{take-over}
 use Rattle.rows.proofs.Laws.{Decides, decides-le, decides-eq, decides-not, decides-as, clash}
-use Rattle.values.specs.Values.{sizeOf, isSigned, isKind, greatest, fits, Holds, valueAt, natural, elementOf, storedAt, bytesOf, readAnswer, readRefusal, readValue, storedAnswer, storedRefusal, storedValue, writeRefusal, writeAnswer, roomAfter, Writes}
+use Rattle.values.specs.Values.{sizeOf, isSigned, isKind, greatest, fits, Holds, valueAt, natural, elementOf, storedAt, bytesOf}
+use Rattle.values.specs.Values.{readAnswer, readRefusal, readValue, storedAnswer, storedRefusal, storedValue, writeRefusal, writeAnswer, roomAfter, Writes}
 use Rattle.values.specs.declared.Value.{Value}
 use Rattle.values.specs.declared.Value.the-variants.{Natural, Negative}
 use Rattle.values.specs.declared.Fault.{Fault}

@@ -2,14 +2,15 @@
 -- Assumes nothing.
 use mathlib.Core.Path.{_≡_}
 use mathlib.Core.Logic.{_⊎_}
-use mathlib.Core.Bool.{Bool, true, false, cond, not, _||_}
+use mathlib.Core.Bool.{Bool, true, false, cond, not, _||_, _&&_}
 use mathlib.Core.List.{List, [], _∷_}
 use mathlib.Core.Option.{Option, some, none}
 use Prim.Native.Nat.{ℕ, zero, suc, _+_, _-_, _*_, _/_, _%_, _^_, _≤_, _<_}
 use lib.Bits.{bitAnd, bitOr, bitXor}
 use lib.Dec.{eqb, leb, ltb}
-use lib.IntN.{ℤ, pos, negsuc}
+use lib.IntN.{ℤ, pos, negsuc, negℤ, sucℤ, predℤ}
 use lib.ListN.{length, getD, take, drop}
+use lib.Signed.{_≤ℤ_}
 use Rattle.lent.specs.Lent.{over}
 use Rattle.rows.specs.Rows.{Row, row, Test, test, firstOf}
 use Rattle.values.specs.declared.Value.{Value}
@@ -142,6 +143,53 @@ unfoldable pub fits : ℕ → Value → Bool
 fits kind (Natural v) = leb v (greatest kind)
 fits kind (Negative m) = cond (isSigned kind) (leb m (greatest kind)) false
 
+-- ---- the ends of each kind in plain figures
+
+pub record Ends : Type 0 where
+  pub least : ℤ
+  pub most : ℤ
+
+-- from 0, or from minus a number, to a number
+abbrev pub upTo : ℕ → Ends
+upTo most = record { least = pos 0; most = pos most }
+
+abbrev pub fromMinus : ℕ → ℕ → Ends
+fromMinus least most = record { least = negℤ (pos least); most = pos most }
+
+-- by kind, from 1 on
+abbrev pub ends : List Ends
+ends =
+    upTo 255
+    ∷ fromMinus 128 127
+    ∷ upTo 65535
+    ∷ fromMinus 32768 32767
+    ∷ upTo 4294967295
+    ∷ fromMinus 2147483648 2147483647
+    ∷ upTo 18446744073709551615
+    ∷ []
+
+abbrev pub endsOf : ℕ → Ends
+endsOf kind = getD ends (kind - 1) (upTo 0)
+
+abbrev pub Within : Ends → ℤ → Type 0
+Within e z = (e .least ≤ℤ z) × (z ≤ℤ e .most)
+
+-- the kind takes an integer
+unfoldable pub takes : ℕ → ℤ → Bool
+takes kind (pos n) = fits kind (Natural n)
+takes kind (negsuc n) = fits kind (Negative n)
+
+-- it takes both ends, and neither the number below the least nor the one above the greatest
+unfoldable pub takesEnds : ℕ → Ends → Bool
+takesEnds kind e = takes kind (e .least) && (takes kind (e .most) && (not (takes kind (predℤ (e .least))) && not (takes kind (sucℤ (e .most)))))
+
+-- so do this kind and those after it
+unfoldable pub allTakeEnds : ℕ → List Ends → Bool
+allTakeEnds kind [] = true
+allTakeEnds kind (e ∷ rest) = takesEnds kind e && allTakeEnds (suc kind) rest
+
+-- ---- the calls' tests
+
 abbrev pub readTests : ℕ → List ℕ → ℕ → List (Test Fault)
 readTests kind bytes element =
     test (not (isKind kind)) UnknownKind
@@ -175,6 +223,11 @@ abbrev pub readAnswer : Option Fault → Value → Reading
 readAnswer (some f) v = reading.Refused f
 readAnswer none v = reading.Is v
 
+-- the number that an answer tells, or none
+abbrev pub readTold : Reading → Option ℕ
+readTold (reading.Refused f) = some (faultNumber f)
+readTold (reading.Is v) = none
+
 unfoldable pub readValue : ℕ → List ℕ → ℕ → Reading
 readValue kind bytes element =
     readAnswer (readRefusal kind bytes element) (valueAt (isSigned kind) (sizeOf kind) (natural (elementOf (sizeOf kind) bytes element)))
@@ -183,12 +236,20 @@ abbrev pub storedAnswer : Option Fault → ℕ → Stored
 storedAnswer (some f) v = stored.Refused f
 storedAnswer none v = stored.As v
 
+abbrev pub storedTold : Stored → Option ℕ
+storedTold (stored.Refused f) = some (faultNumber f)
+storedTold (stored.As v) = none
+
 unfoldable pub storedValue : ℕ → Value → Stored
 storedValue kind value = storedAnswer (storedRefusal kind value) (storedAt (sizeOf kind) value)
 
 abbrev pub writeAnswer : Option Fault → Writing
 writeAnswer (some f) = writing.Refused f
 writeAnswer none = writing.Done
+
+abbrev pub writeTold : Writing → Option ℕ
+writeTold (writing.Refused f) = some (faultNumber f)
+writeTold writing.Done = none
 
 -- a refusal leaves every byte of the buffer; a written value takes its first bytes
 unfoldable pub roomAfter : Option Fault → List ℕ → List ℕ → List ℕ
@@ -210,6 +271,11 @@ toggleBits v mask = bitXor v mask
 -- the bit at a place, 0 the lowest
 abbrev pub bitAt : ℕ → ℕ → ℕ
 bitAt v place = v / 2 ^ place % 2
+
+-- what these bits weigh, those of the first n places
+unfoldable pub weighed : (ℕ → ℕ) → ℕ → ℕ
+weighed bit zero = 0
+weighed bit (suc n) = weighed bit n + bit n * 2 ^ n
 
 -- ---- the contracts
 

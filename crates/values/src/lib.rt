@@ -165,10 +165,8 @@ pub fn as_stored(kind: u8, value: Value) -> Stored
             }
         }
         Value::Negative(below) => {
-            if signed(kind) {
-                if below <= top {
-                    return Stored::As(top + 1 + (top - below));
-                }
+            if signed(kind) && below <= top {
+                return Stored::As(top + 1 + (top - below));
             }
         }
     }
@@ -184,10 +182,7 @@ pub fn read(kind: u8, bytes: &[u8], element: u64) -> Reading
         return Reading::Refused(Fault::UnknownKind);
     }
     let len = bytes.len();
-    if len == 0 {
-        return Reading::Refused(Fault::WrongLength);
-    }
-    if len % n != 0 {
+    if len == 0 || len % n != 0 {
         return Reading::Refused(Fault::WrongLength);
     }
     let k = element as usize;
@@ -241,9 +236,5 @@ pub fn toggle_bits(v: u64, mask: u64) -> u64
 pub fn bit(v: u64, place: u8) -> bool
     ensures { λ r. ⌜ TestsBit v place r ⌝ }
 {
-    if place < 64 {
-        (v >> place) % 2 == 1
-    } else {
-        false
-    }
+    place < 64 && (v >> place) % 2 == 1
 }

@@ -7,9 +7,10 @@ use mathlib.Core.Logic.{⊎-elim}
 use Prim.Native.Nat.{ℕ, _+_, _-_, _<_, _≤_}
 use native.Mathlib.Omega.{arith}
 use borrow.Author.Needs.{needs}
+use borrow.Author.Tests.{eqb-true, eqb-false}
 use lib.ListN.{length, getD, drop, drop-of-length-le}
 use Rattle.catalogue.specs.Catalogue.{Line, table, nothing, rowOf, entryOf, isFor, named, lineFor, findRefusal, findEntry}
-use Rattle.catalogue.specs.declared.Row.{Row}
+use Rattle.catalogue.specs.declared.table.Row.{Row}
 use Rattle.catalogue.specs.declared.Fault.the-variants.{NoSuchRow}
 use Rattle.catalogue.specs.declared.Found.the-variants.{Is, Refused}
 use Rattle.catalogue.proofs.Lookup.{is-for, other-model, other-register, Same, passed-at, hit-at}
@@ -37,26 +38,26 @@ module _ (model register at : ℕ) (r : Row) (is : r ≡ rowOf (getD table at no
   within : at < length table
   within = omega (arith, many)
 
-  model-is : r .0 ≡ getD table at nothing .model
-  model-is = ap (λ (x : Row). x .0) is
+  model-is : r .model ≡ getD table at nothing .model
+  model-is = ap (λ (x : Row). x .model) is
 
-  register-is : r .1 ≡ getD table at nothing .register
-  register-is = ap (λ (x : Row). x .1) is
+  register-is : r .register ≡ getD table at nothing .register
+  register-is = ap (λ (x : Row). x .register) is
 
-  found : r .0 ≡ model → r .1 ≡ register
-      → Is (record { kind = r .2; writable = r .3; lowest = r .4; highest = r .5 }) ≡ findEntry model register
+  found : r .model ≡ model → r .register ≡ register
+      → Is (record { kind = r .kind; writable = r .writable; lowest = r .lowest; highest = r .highest }) ≡ findEntry model register
   found m g =
       let hit = hit-at model register table table at within same (is-for _ _ _ (sym model-is ∙ m, sym register-is ∙ g)) in
-      ap (λ (x : Row). Is (record { kind = x .2; writable = x .3; lowest = x .4; highest = x .5 })) is
+      ap (λ (x : Row). Is (record { kind = x .kind; writable = x .writable; lowest = x .lowest; highest = x .highest })) is
       ∙ answered model register (getD table at nothing) (hit .0) (hit .1)
 
   passed : isFor model register (getD table at nothing) ≡ false → (at + 1 ≤ 28) × Same model register (drop (at + 1) table) table
   passed e = (omega arith, passed-at model register table table at within same e)
 
-  passed-model : (r .0 ≡ model → ⊥) → (at + 1 ≤ 28) × Same model register (drop (at + 1) table) table
+  passed-model : (r .model ≡ model → ⊥) → (at + 1 ≤ 28) × Same model register (drop (at + 1) table) table
   passed-model h = passed (other-model _ _ _ (λ e. h (model-is ∙ e)))
 
-  passed-register : r .0 ≡ model → (r .1 ≡ register → ⊥) → (at + 1 ≤ 28) × Same model register (drop (at + 1) table) table
+  passed-register : r .model ≡ model → (r .register ≡ register → ⊥) → (at + 1 ≤ 28) × Same model register (drop (at + 1) table) table
   passed-register m h = passed (other-register _ _ _ (sym model-is ∙ m) (λ e. h (register-is ∙ e)))
 
 abbrev Inv-loop : tie.InvT-loop
@@ -76,7 +77,7 @@ returns c =
     let got = c .before .before .before .before in
     let turn = got .before .before .loop in
     let under : turn .at < 28 = omega arith in
-    found _ _ _ _ (got .row-at .ensures) under (turn .inv .1) (c .before .before .if1 .taken) (c .if2 .taken)
+    found _ _ _ _ (got .row-at .ensures) under (turn .inv .1) (c .before .before .if1 .taken) (eqb-true _ _ (c .if2 .taken))
 
 add-at : tie.Need-add-at Inv-loop μ-loop
 add-at c = search needs
@@ -90,7 +91,7 @@ loop-again c =
     let turn = got .before .before .loop in
     let under : turn .at < 28 = omega arith in
     ⊎-elim
-    (λ w. passed-register _ _ _ _ (got .row-at .ensures) under (turn .inv .1) (w .0 .taken) (w .2 .left))
+    (λ w. passed-register _ _ _ _ (got .row-at .ensures) under (turn .inv .1) (w .0 .taken) (eqb-false _ _ (w .2 .left)))
     (λ w. passed-model _ _ _ _ (got .row-at .ensures) under (turn .inv .1) (w .left))
     (c .if1 .came)
 

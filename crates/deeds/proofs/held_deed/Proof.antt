@@ -33,11 +33,18 @@ write-deed-requires-2 c κs = search needs
 returns-3 : tie.Need-returns-3
 returns-3 c =
     c .write-deed2 .ensures
-    ∙ deed-bits _ _ _ _ (c .before .before .before .before .before .before .load .ensures) _ _ (c .before .before .before .is-bit-write .ensures) (c .before .before .if3 .taken)
+    ∙ deed-bits _ _ _ _ (c .before .before .before .before .before .before .load .ensures) _ _
+    (c .before .before .before .is-bit-write .ensures) (c .before .before .if3 .taken)
     (c .before .before .before .before .before .if1 .left) (c .before .before .before .before .if2 .left) (c .before .changed .ensures)
 
+nack-requires : tie.Need-nack-requires
+nack-requires c κs = search needs
+
 returns-4 : tie.Need-returns-4
-returns-4 c = deed-other _ _ _ _ (c .before .is-bit-write .ensures) (c .if3 .left) (c .before .before .before .if1 .left) (c .before .before .if2 .left)
+returns-4 c =
+    c .nack .ensures
+    ∙ deed-other _ _ _ _ (c .before .before .is-bit-write .ensures) (c .before .if3 .left)
+    (c .before .before .before .before .if1 .left) (c .before .before .before .if2 .left)
 
 pub held-deed-spec : {M : Type 1} → statement M
 held-deed-spec =
@@ -52,4 +59,5 @@ held-deed-spec =
     changed-requires
     write-deed-requires-2
     returns-3
+    nack-requires
     returns-4)

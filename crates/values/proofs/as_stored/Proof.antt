@@ -2,10 +2,11 @@
 -- Assumes nothing.
 use mathlib.Core.Path.{_≡_, sym, ap, _∙_}
 use mathlib.Core.Bool.{true, false}
+use mathlib.Core.Logic.{⊎-elim}
 use Prim.Native.Nat.{ℕ, _+_, _-_, _*_, _^_, _<_, _≤_}
 use native.Mathlib.Omega.{arith}
 use borrow.Author.Needs.{needs}
-use borrow.Author.Tests.{le-leb, lt-leb}
+use borrow.Author.Tests.{le-leb, lt-leb, leb-true, leb-false}
 use lib.Pow.{pow-pos}
 use Rattle.values.specs.Values.{sizeOf, isSigned, isKind, greatest, fits, storedAt, storedRefusal, storedValue}
 use Rattle.values.specs.declared.Value.{Value}
@@ -96,10 +97,13 @@ low c =
     let negative = c .before .before .before .before in
     let top = negative .before .before in
     mirrored _ (top .before .before .before .args .value) _ _ (top .before .before .size .ensures) (top .before .if1 .left) (top .highest .ensures) _
-    (sym (c .before .before .signed .ensures) ∙ c .before .if3 .taken) (c .if4 .taken) .1
+    (sym (c .before .before .signed .ensures) ∙ c .before .if3 .taken) (leb-true _ _ (c .if4 .taken)) .1
 
 add-t12 : tie.Need-add-t12
 add-t12 c = omega (arith, low c)
+
+sub-t13 : tie.Need-sub-t13
+sub-t13 c = search needs
 
 add-t14 : tie.Need-add-t14
 add-t14 c = omega (arith, low c)
@@ -109,7 +113,7 @@ returns-3 c =
     let negative = c .before .before .before .before in
     let top = negative .before .before in
     negative-kept _ _ _ _ (top .before .before .size .ensures) (top .before .if1 .left) (top .highest .ensures) _ (negative .value2 .given .1)
-    (sym (c .before .before .signed .ensures) ∙ c .before .if3 .taken) (c .if4 .taken)
+    (sym (c .before .before .signed .ensures) ∙ c .before .if3 .taken) (leb-true _ _ (c .if4 .taken))
 
 returns-4 : tie.Need-returns-4
 returns-4 c =
@@ -119,17 +123,15 @@ returns-4 c =
 
 returns-5 : tie.Need-returns-5
 returns-5 c =
-    let negative = c .before .before .before .before in
-    let top = negative .before .before in
-    negative-unfit _ _ _ _ (top .before .before .size .ensures) (top .before .if1 .left) (top .highest .ensures) _ (negative .value2 .given .1)
-    (sym (c .before .before .signed .ensures) ∙ c .before .if3 .taken) (c .if4 .left)
-
-returns-6 : tie.Need-returns-6
-returns-6 c =
     let negative = c .before .before .before in
     let top = negative .before .before in
-    unsigned-unfit _ _ _ _ (top .before .before .size .ensures) (top .before .if1 .left) (top .highest .ensures) _ (negative .value2 .given .1)
-    (sym (c .before .signed .ensures) ∙ c .if3 .left)
+    let size = top .before .before .size .ensures in
+    let some = top .before .if1 .left in
+    let high = top .highest .ensures in
+    ⊎-elim
+    (λ w. negative-unfit _ _ _ _ size some high _ (negative .value2 .given .1) (sym (c .before .signed .ensures) ∙ w .0 .taken) (leb-false _ _ (w .1 .left)))
+    (λ w. unsigned-unfit _ _ _ _ size some high _ (negative .value2 .given .1) (sym (c .before .signed .ensures) ∙ w .left))
+    (c .if3 .came)
 
 pub as-stored-spec : {M : Type 1} → statement M
 as-stored-spec =
@@ -143,8 +145,8 @@ as-stored-spec =
     enum-known-value-2
     signed-requires
     add-t12
+    sub-t13
     add-t14
     returns-3
     returns-4
-    returns-5
-    returns-6)
+    returns-5)

@@ -1,13 +1,15 @@
 -- `read` tests its rows in their order; what is left is the value of the element's bytes.
 -- Assumes nothing.
 use mathlib.Core.Path.{_≡_, ap₂, _∙_}
-use mathlib.Core.Bool.{Bool}
+use mathlib.Core.Bool.{Bool, true, false, not}
 use mathlib.Core.List.{List}
+use mathlib.Core.Logic.{⊎-elim}
 use Prim.Native.Nat.{ℕ, _+_, _-_, _*_, _/_, _%_, _<_, _≤_}
 use native.Mathlib.Nat.{div-lt-iff-lt-mul, le-div-iff-mul-le}
 use native.Mathlib.Omega.{arith}
 use borrow.Author.Needs.{needs}
-use borrow.Author.Tests.{lt-ltb, le-ltb, ne-eqb}
+use borrow.Author.Tests.{lt-ltb, le-ltb, ne-eqb, eqb-true, eqb-false, not-true, not-false}
+use lib.Dec.{eqb}
 use lib.ListN.{length, take, drop, length-take}
 use lib.Seq.{take-all}
 use Rattle.values.specs.Values.{sizeOf, isSigned, natural, valueAt, elementOf, readRefusal, readValue}
@@ -75,6 +77,13 @@ part bytes n k loaded h e =
     let many : k * n + n - k * n ≡ n = omega arith in
     e ∙ rw (many, take-all 8 (take n (drop (k * n) bytes)) (omega (arith, length-take n (drop (k * n) bytes))))
 
+-- the test of the second half of row 41, told as a flag
+uneven-told : (a b : ℕ) → not (eqb a b) ≡ true → a ≡ b → ⊥
+uneven-told a b e = eqb-false a b (not-true (eqb a b) e)
+
+even-told : (a b : ℕ) → not (eqb a b) ≡ false → a ≡ b
+even-told a b e = eqb-true a b (not-false (eqb a b) e)
+
 few-bytes : (kind n : ℕ) → n ≡ sizeOf kind → (n ≡ 0 → ⊥) → n ≤ 8
 few-bytes kind n size some = omega (arith, size-le kind (omega arith))
 
@@ -84,22 +93,22 @@ size-requires c κs = search needs
 returns : tie.Need-returns
 returns c = unknown _ _ _ _ (c .before .size .ensures) (c .if1 .taken)
 
-returns-2 : tie.Need-returns-2
-returns-2 c = empty _ _ _ _ (c .before .before .size .ensures) (c .before .if1 .left) (c .if2 .taken)
-
 rem-if3 : tie.Need-rem-if3
 rem-if3 c = search needs
 
-returns-3 : tie.Need-returns-3
-returns-3 c = uneven _ _ _ _ (c .before .before .before .size .ensures) (c .before .before .if1 .left) (c .before .if2 .left) (c .if3 .taken)
+returns-2 : tie.Need-returns-2
+returns-2 c =
+    let size = c .before .before .size .ensures in
+    let some = c .before .if1 .left in
+    ⊎-elim (λ w. empty _ _ _ _ size some (w .taken)) (λ w. uneven _ _ _ _ size some (w .0 .left) (uneven-told _ _ (w .1 .taken))) (c .if2 .came)
 
 div-if4 : tie.Need-div-if4
 div-if4 c = search needs
 
-returns-4 : tie.Need-returns-4
-returns-4 c =
+returns-3 : tie.Need-returns-3
+returns-3 c =
     let known = c .before .before .before in
-    past _ _ _ _ (known .before .size .ensures) (known .if1 .left) (c .before .before .if2 .left) (c .before .if3 .left) (c .if4 .taken)
+    past _ _ _ _ (known .before .size .ensures) (known .if1 .left) (c .before .before .if2 .left) (even-told _ _ (c .before .if3 .left)) (c .if4 .taken)
 
 -- past the tests, the element lies within the bytes
 whole : (c : tie.Else4) → c .before .before .before .before .before .before .args .element * c .before .before .before .before .size .result
@@ -149,11 +158,11 @@ value-at-requires c κs =
           (element-lt _ _ _ (λ i. known .before .before .shared-slice-known .given i .fits) (whole (c .before .before .before))),
     )
 
-returns-5 : tie.Need-returns-5
-returns-5 c =
+returns-4 : tie.Need-returns-4
+returns-4 c =
     let tested = c .before .before .before .before in
     let known = tested .before .before .before in
-    found _ _ _ _ (known .before .size .ensures) (known .if1 .left) (tested .before .before .if2 .left) (tested .before .if3 .left) (tested .if4 .left) _
+    found _ _ _ _ (known .before .size .ensures) (known .if1 .left) (tested .before .before .if2 .left) (even-told _ _ (tested .before .if3 .left)) (tested .if4 .left) _
     (c .value-at .ensures
     ∙ ap₂ (λ (b : Bool) (v : ℕ). valueAt b (known .before .size .result) v) (c .before .signed .ensures) (at-load (c .before .before) .1))
 
@@ -163,11 +172,10 @@ read-spec =
     (tie.spec
     size-requires
     returns
-    returns-2
     rem-if3
-    returns-3
+    returns-2
     div-if4
-    returns-4
+    returns-3
     mul-at
     add-load
     sub-load
@@ -176,4 +184,4 @@ read-spec =
     load-requires
     signed-requires
     value-at-requires
-    returns-5)
+    returns-4)

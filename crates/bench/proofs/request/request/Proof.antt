@@ -18,19 +18,28 @@ silent-requires-2 : tie.Need-silent-requires-2
 silent-requires-2 c κs = search needs
 
 returns-2 : tie.Need-returns-2
-returns-2 c = silenced _ _ _ _ _ _ _ (no-request _ _ _ _ _ (c .before .before .before .if1 .left) (c .before .before .is-answer .ensures) (c .before .if2 .taken)) (c .silent2 .ensures)
+returns-2 c =
+    silenced _ _ _ _ _ _ _
+    (no-request _ _ _ _ _ (c .before .before .before .if1 .left) (c .before .before .is-answer .ensures) (c .before .if2 .taken))
+    (c .silent2 .ensures)
 
 deed-requires : tie.Need-deed-requires
 deed-requires c κs = search needs
 
 reply-requires : tie.Need-reply-requires
-reply-requires c κs = let start = c .before .before .before .before .before .before .before .before .before in reply-ready _ _ _ _ (start .pre .0) (start .pre .1) (c .before .before .before .before .if1 .left) (c .before .deed .ensures)
+reply-requires c κs =
+    let start = c .before .before .before .before .before .before .before .before .before in
+    reply-ready _ _ _ _ (start .pre .0) (start .pre .1) (c .before .before .before .before .if1 .left) (c .before .deed .ensures)
 
 same-length : tie.Need-same-length
 same-length c = search needs
 
 returns-3 : tie.Need-returns-3
-returns-3 c = let told = c .before .before .before .before .before in requested _ _ _ (told .before .before .before .before .before .before .before .args .room .now) _ _ _ _ (told .before .before .if1 .left) (told .before .is-answer .ensures) (told .if2 .left) (c .before .before .before .before .deed .ensures) (c .before .before .reply .ensures)
+returns-3 c =
+    let told = c .before .before .before .before .before in
+    let start = told .before .before .before .before .before .before .before in
+    requested _ _ _ (start .args .room .now) _ _ _ _ (told .before .before .if1 .left) (told .before .is-answer .ensures) (told .if2 .left)
+    (c .before .before .before .before .deed .ensures) (c .before .before .reply .ensures)
 
 pub request-spec : {M : Type 1} → statement M
 request-spec =

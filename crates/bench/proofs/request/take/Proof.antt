@@ -25,7 +25,10 @@ silent-requires : tie.Need-silent-requires
 silent-requires c κs = search needs
 
 returns : tie.Need-returns
-returns c = silenced _ _ _ _ _ _ _ (not-read _ _ _ _ _ _ (c .before .before .before .before .before .read .ensures .0) (c .before .before .enum-told .given .1) (c .before .why .ensures)) (c .silent .ensures)
+returns c =
+    silenced _ _ _ _ _ _ _
+    (not-read _ _ _ _ _ _ (c .before .before .before .before .before .read .ensures .0) (c .before .before .enum-told .given .1) (c .before .why .ensures))
+    (c .silent .ensures)
 
 sub-request : tie.Need-sub-request
 sub-request c = search needs
@@ -34,16 +37,24 @@ part-request-start : tie.Need-part-request-start
 part-request-start c = search needs
 
 part-request-end : tie.Need-part-request-end
-part-request-end c = let h = size-fits _ _ (sym (c .before .before .before .before .before .read .ensures .0) ∙ c .before .before .reading .given .1) in search needs
+part-request-end c =
+    let h = size-fits _ _ (sym (c .before .before .before .before .before .read .ensures .0) ∙ c .before .before .reading .given .1) in
+    search needs
 
 request-requires : tie.Need-request-requires
-request-requires c κs = addressed _ _ (sym (c .before .before .before .before .before .before .before .read .ensures .0) ∙ c .before .before .before .before .reading .given .1)
+request-requires c κs =
+    addressed _ _ (sym (c .before .before .before .before .before .before .before .read .ensures .0) ∙ c .before .before .before .before .reading .given .1)
 
 same-length : tie.Need-same-length
 same-length c = search needs
 
 returns-2 : tie.Need-returns-2
-returns-2 c = let got = c .before .before .before .before .before .before .before in let read = sym (got .before .before .before .read .ensures .0) ∙ got .reading .given .1 in taken _ _ read _ _ (got .before .before .before .before .before .before .before .args .room .now) _ _ (data-read _ _ read _ _ refl (got .before .before .before .read .ensures .1)) (c .before .before .request .ensures)
+returns-2 c =
+    let got = c .before .before .before .before .before .before .before in
+    let start = got .before .before .before .before .before .before .before in
+    let read = sym (got .before .before .before .read .ensures .0) ∙ got .reading .given .1 in
+    taken _ _ read _ _ (start .args .room .now) _ _ (data-read _ _ read _ _ refl (got .before .before .before .read .ensures .1))
+    (c .before .before .request .ensures)
 
 pub take-spec : {M : Type 1} → statement M
 take-spec =

@@ -4,8 +4,8 @@ use borrow.Author.Needs.{needs}
 use lib.ListN.{List·getD-map}
 use Rattle.values.specs.Values.{sizeOf, isSigned, greatest}
 use Rattle.catalogue.specs.Catalogue.{table, nothing, rowOf}
-use Rattle.catalogue.proofs.row_at.Statement.{statement}
-use Rattle.catalogue.proofs.row_at.Tie as tie
+use Rattle.catalogue.proofs.table.row_at.Statement.{statement}
+use Rattle.catalogue.proofs.table.row_at.Tie as tie
 
 mul-result : tie.Need-mul-result
 mul-result c = search needs
