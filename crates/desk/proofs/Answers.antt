@@ -8,7 +8,7 @@ use Rattle.telegram.specs.declared.Fields.{Fields}
 use Rattle.desk.specs.Close.{closeAnswer}
 use Rattle.desk.specs.Open.{openAnswer}
 use Rattle.desk.specs.Reply.{bookAnswer}
-use Rattle.waiting.specs.declared.Ticket.{Ticket}
+use Rattle.ticket.specs.declared.Ticket.{Ticket}
 use Rattle.desk.specs.declared.Fault.{Fault}
 use Rattle.desk.specs.declared.Opening.the-variants.{Opened}
 use Rattle.desk.specs.declared.Booking.the-variants.{Booked}
@@ -29,7 +29,7 @@ open-refused none a n f e = cc
 open-refused (some g) a n f e = cc
 
 pub booked-told : (o : Option Fault) (ticket : Ticket) (t : Fields) (job address sort n : ℕ) → Booked job address sort n ≡ bookAnswer o ticket t
-    → (o ≡ none) × (job ≡ ticket .job) × (address ≡ t .destination) × (sort ≡ t .sort) × (n ≡ t .size)
+    → (o ≡ none) × (job ≡ ticket .asked .job) × (address ≡ t .destination) × (sort ≡ t .sort) × (n ≡ t .size)
 booked-told none ticket t job address sort n e = (refl, cc, cc, cc, cc)
 booked-told (some f) ticket t job address sort n e = never (cc)
 
@@ -38,7 +38,7 @@ book-refused none ticket t f e = cc
 book-refused (some g) ticket t f e = cc
 
 pub closed-told : (o : Option Fault) (ticket : Ticket) (a job address : ℕ) → Closed job address ≡ closeAnswer o ticket a
-    → (o ≡ none) × (job ≡ ticket .job) × (address ≡ a)
+    → (o ≡ none) × (job ≡ ticket .asked .job) × (address ≡ a)
 closed-told none ticket a job address e = (refl, cc, cc)
 closed-told (some f) ticket a job address e = never (cc)
 

@@ -1,21 +1,20 @@
 -- What each return of the calls gives, over plain numbers, tickets and desks.
 -- Assumes nothing.
 use mathlib.Core.Path.{_≡_, refl, sym, ap, _∙_}
-use mathlib.Core.Bool.{Bool, true, false, cond, not, true≢false}
+use mathlib.Core.Bool.{Bool, true, false, cond, not, _&&_, true≢false}
 use mathlib.Core.List.{List}
 use mathlib.Core.Logic.{_≢_}
 use mathlib.Core.Option.{Option, some, none}
 use Prim.Native.Nat.{ℕ, _+_, _-_, _≤_, _<_}
 use native.Mathlib.Omega.{arith}
-use borrow.Author.Tests.{leb-true, le-ltb, le-leb, lt-leb, eq-eqb, ne-eqb}
-use lib.Dec.{ltb, leb}
+use borrow.Author.Tests.{leb-true, le-ltb, le-leb, lt-leb, ne-eqb}
+use lib.Dec.{eqb, ltb, leb}
 use lib.ListN.{length}
-use Rattle.frame.specs.Frame.{messageOf}
 use Rattle.request.specs.Request.{askRefusal}
 use Rattle.request.specs.declared.Fault.{Fault as Asked}
 use Rattle.rows.specs.Rows.{raised}
 use Rattle.telegram.proofs.Judge.{reading-refused, reading-telegram}
-use Rattle.telegram.specs.Read.{readRefusal, fieldsOf, roomAfter, readFrame}
+use Rattle.telegram.specs.Read.{readRefusal, roomAfter, readFrame, fieldsIn}
 use Rattle.telegram.specs.Write.{telegramFor, writeRefusal, writeAnswer, Writes}
 use Rattle.telegram.specs.declared.Fields.{Fields}
 use Rattle.telegram.specs.declared.Reading.{Reading}
@@ -28,13 +27,15 @@ use Rattle.telegram.specs.declared.Reading.the-variants.{Refused as Unreading}
 use Rattle.telegram.specs.declared.Writing.the-variants.{Refused as NotWritten}
 use Rattle.first.proofs.Laws.{first-none, first-at}
 use Rattle.first.specs.First.{firstPlace}
-use Rattle.waiting.specs.Fit.{fitRefusal}
-use Rattle.waiting.specs.declared.Fault.{Fault as Unfit}
-use Rattle.desk.specs.Close.{cancelRefusal, duePlace, expireRefusal}
-use Rattle.desk.specs.Open.{placeFrom, distanceOf, givenPlace, requestAt, openRefusal, withTicket, OpensAt, PlacesAt}
+use Rattle.ticket.specs.Fit.{fitRefusal}
+use Rattle.ticket.specs.declared.Fault.{Fault as Unfit}
+use Rattle.desk.specs.Close.{isTheirs, cancelRefusal, duePlace, expireRefusal}
+use Rattle.desk.specs.Open.{placeFrom, distanceOf, givenPlace, requestAt, openRefusal, withTicket, OpensAt, PlacesAt, Opens}
 use Rattle.desk.specs.Reply.{bookRefusal, replyRefusal}
-use Rattle.desk.specs.Ticket.{noTicket, ticketAt, ticketOn}
-use Rattle.waiting.specs.declared.Ticket.{Ticket}
+use Rattle.desk.specs.Desk.{ticketAt, ticketOn}
+use Rattle.ticket.specs.Ticket.{noTicket, isFree, newTicket}
+use Rattle.request.specs.declared.Request.{Request}
+use Rattle.ticket.specs.declared.Ticket.{Ticket}
 use Rattle.desk.specs.declared.Desk.{Desk}
 use Rattle.desk.specs.declared.Fault.the-variants.{Denied, NoRoom, Unread, Misfit, NotTheirs, NothingDue}
 use Rattle.desk.specs.declared.Opening.the-variants.{Opened}
@@ -55,24 +56,24 @@ live-host desk address e = go (leb 161 address) refl e
 pub end-none : (fits : ℕ → Bool) (k : ℕ) → k ≤ 95 → 95 ≤ k → ((i : ℕ) → i < k → fits i ≡ false) → k ≡ firstPlace fits 95
 end-none fits k below above before = let e : k ≡ 95 = omega arith in e ∙ sym (first-none fits 95 (rw e at before))
 
--- the search from the turn has come to a place without a ticket
-pub free-found : (desk : Desk) (k : ℕ) → k < 95 → ((i : ℕ) → i < k → not (ticketAt desk (placeFrom (desk .turn) i) .live) ≡ false)
-    → ticketAt desk (placeFrom (desk .turn) k) .live ≡ false → k ≡ distanceOf desk
+-- the search from the turn has come to a free place
+pub free-found : (desk : Desk) (k : ℕ) → k < 95 → ((i : ℕ) → i < k → isFree (ticketAt desk (placeFrom (desk .turn) i)) ≡ false)
+    → isFree (ticketAt desk (placeFrom (desk .turn) k)) ≡ true → k ≡ distanceOf desk
 unfolding distanceOf
-free-found desk k h before free = sym (first-at (λ i. not (ticketAt desk (placeFrom (desk .turn) i) .live)) 95 k h before (rw free))
+free-found desk k h before free = sym (first-at (λ i. isFree (ticketAt desk (placeFrom (desk .turn) i))) 95 k h before free)
 
 -- ---- opening
 
-pub open-denied : (desk : Desk) (ticket : Ticket) (bytes : List ℕ) (room : ℕ) (f : Asked)
-    → askRefusal (ticket .job) (ticket .unit) (ticket .sort) bytes (ticket .wait) ≡ some f → openRefusal desk ticket bytes room ≡ some (Denied f)
+pub open-denied : (desk : Desk) (asked : Request) (bytes : List ℕ) (room : ℕ) (f : Asked) → askRefusal asked bytes ≡ some f
+    → openRefusal desk asked bytes room ≡ some (Denied f)
 unfolding openRefusal
-open-denied desk ticket bytes room f e = rw e
+open-denied desk asked bytes room f e = rw e
 
-pub open-allowed : (desk : Desk) (ticket : Ticket) (bytes room : List ℕ) (r : AfterOpen) (room′ : List ℕ) (d : ℕ)
-    → askRefusal (ticket .job) (ticket .unit) (ticket .sort) bytes (ticket .wait) ≡ none → d ≡ distanceOf desk
-    → PlacesAt desk d ticket bytes room r room′ → OpensAt (openRefusal desk ticket bytes (length room)) desk (givenPlace desk) ticket bytes room r room′
+pub open-allowed : (desk : Desk) (asked : Request) (bytes : List ℕ) (clock : ℕ) (room : List ℕ) (r : AfterOpen) (room′ : List ℕ) (d : ℕ)
+    → askRefusal asked bytes ≡ none → d ≡ distanceOf desk
+    → PlacesAt desk d asked bytes clock room r room′ → Opens desk asked bytes clock room r room′
 unfolding openRefusal givenPlace
-open-allowed desk ticket bytes room r room′ d e far p = rw e (rw far at p)
+open-allowed desk asked bytes clock room r room′ d e far p = rw e (rw far at p)
 
 -- the writer can only lack room
 pub only-room : (d s t r : ℕ) (bytes : List ℕ) (room : ℕ) → length bytes ≤ 240 → d ≢ 0 → s ≢ 0 → t ≤ 9
@@ -80,43 +81,46 @@ pub only-room : (d s t r : ℕ) (bytes : List ℕ) (room : ℕ) → length bytes
 unfolding writeRefusal
 only-room d s t r bytes room long hd hs ht = simp (le-ltb 240 (length bytes) long, ne-eqb d 0 hd, ne-eqb s 0 hs, le-ltb 9 t ht)
 
-module _ (desk : Desk) (d : ℕ) (ticket : Ticket) (bytes room room′ : List ℕ) (w : Writing) (near : d < 95)
-    (fit : (length bytes ≤ 240) × (ticket .unit ≢ 0) × (ticket .sort ≤ 9))
-    (writes : Writes (ticket .unit) (161 + placeFrom (desk .turn) d) (ticket .sort) (ticket .register) bytes room w room′) where
+module _ (desk : Desk) (d : ℕ) (asked : Request) (bytes : List ℕ) (clock : ℕ) (room room′ : List ℕ) (w : Writing) (near : d < 95)
+    (fit : (length bytes ≤ 240) × (asked .unit ≢ 0) × (asked .sort ≤ 9))
+    (writes : Writes (asked .unit) (161 + placeFrom (desk .turn) d) (asked .sort) (asked .register) bytes room w room′) where
   place : ℕ
   place = placeFrom (desk .turn) d
 
   Outcome : Bool → AfterOpen → Type 0
-  Outcome short r = OpensAt (cond short (some NoRoom) none) desk place ticket bytes room r room′
+  Outcome short r = OpensAt (cond short (some NoRoom) none) desk place asked bytes clock room r room′
 
-  written : (r : AfterOpen) → ((short : Bool) → w ≡ writeAnswer (cond short (some OverRoom) none) (length (requestAt place ticket bytes))
-      → room′ ≡ roomAfter (cond short (some OverRoom) none) (requestAt place ticket bytes) room → Outcome short r)
-      → PlacesAt desk d ticket bytes room r room′
-  unfolding place Outcome
+  -- what the writer tells, by whether there is too little room
+  Told : Bool → Type 0
+  Told short =
+      (w ≡ writeAnswer (cond short (some OverRoom) none) (length (requestAt place asked bytes)))
+      × (room′ ≡ roomAfter (cond short (some OverRoom) none) (requestAt place asked bytes) room)
+
+  written : (r : AfterOpen) → ((short : Bool) → Told short → Outcome short r) → PlacesAt desk d asked bytes clock room r room′
+  unfolding place Outcome Told
   written r go =
-      let only = only-room (ticket .unit) (161 + placeFrom (desk .turn) d) (ticket .sort) (ticket .register) bytes (length room) (fit .0) (fit .1) (λ e. omega arith) (fit .2) in
-      rw (lt-leb 95 d near) (go (ltb (length room) (length (requestAt (placeFrom (desk .turn) d) ticket bytes))) (rw only at (writes .0)) (rw only at (writes .1)))
+      let only =
+      only-room (asked .unit) (161 + placeFrom (desk .turn) d) (asked .sort) (asked .register) bytes (length room) (fit .0) (fit .1) (λ e. omega arith) (fit .2) in
+      rw (lt-leb 95 d near)
+      (go (ltb (length room) (length (requestAt (placeFrom (desk .turn) d) asked bytes))) (rw only at (writes .0), rw only at (writes .1)))
 
-  pub opened-at : (n : ℕ) (desk′ : Desk) → w ≡ Written n → desk′ ≡ withTicket desk (placeFrom (desk .turn) d) ticket
-      → PlacesAt desk d ticket bytes room (record { desk = desk′; answer = Opened (161 + placeFrom (desk .turn) d) n }) room′
-  unfolding place Outcome
+  pub opened-at : (n : ℕ) (desk′ : Desk) → w ≡ Written n → desk′ ≡ withTicket desk (placeFrom (desk .turn) d) (newTicket asked clock)
+      → PlacesAt desk d asked bytes clock room (record { desk = desk′; answer = Opened (161 + placeFrom (desk .turn) d) n }) room′
+  unfolding place Outcome Told
   opened-at n desk′ e laid = written _ go
     where
-      go : (short : Bool) → w ≡ writeAnswer (cond short (some OverRoom) none) (length (requestAt place ticket bytes))
-          → room′ ≡ roomAfter (cond short (some OverRoom) none) (requestAt place ticket bytes) room
-          → Outcome short (record { desk = desk′; answer = Opened (161 + placeFrom (desk .turn) d) n })
-      go true p q = absurd (let z : _≡_ {A = ℕ} 0 1 = cc in omega arith)
-      go false p q = (ap (Opened (161 + placeFrom (desk .turn) d)) (let same : n ≡ length (requestAt place ticket bytes) = cc in same), laid, q)
+      go : (short : Bool) → Told short → Outcome short (record { desk = desk′; answer = Opened (161 + placeFrom (desk .turn) d) n })
+      go true told = absurd (let z : _≡_ {A = ℕ} 0 1 = cc (told .0) in omega arith)
+      go false told =
+          (ap (Opened (161 + placeFrom (desk .turn) d)) (let same : n ≡ length (requestAt place asked bytes) = cc (told .0) in same), laid, told .1)
 
-  pub no-room-at : (f : Unreadable) → w ≡ NotWritten f → PlacesAt desk d ticket bytes room (record { desk = desk; answer = Refused NoRoom }) room′
-  unfolding place Outcome
+  pub no-room-at : (f : Unreadable) → w ≡ NotWritten f → PlacesAt desk d asked bytes clock room (record { desk = desk; answer = Refused NoRoom }) room′
+  unfolding place Outcome Told
   no-room-at f e = written _ go
     where
-      go : (short : Bool) → w ≡ writeAnswer (cond short (some OverRoom) none) (length (requestAt place ticket bytes))
-          → room′ ≡ roomAfter (cond short (some OverRoom) none) (requestAt place ticket bytes) room
-          → Outcome short (record { desk = desk; answer = Refused NoRoom })
-      go true p q = (refl, refl, q)
-      go false p q = absurd (let z : _≡_ {A = ℕ} 0 1 = cc in omega arith)
+      go : (short : Bool) → Told short → Outcome short (record { desk = desk; answer = Refused NoRoom })
+      go true told = (refl, refl, told .1)
+      go false told = absurd (let z : _≡_ {A = ℕ} 0 1 = cc (told .0) in omega arith)
 
 -- ---- a reply
 
@@ -128,7 +132,7 @@ reply-unread desk frame room reading f p q = rw (reading-refused frame room f (s
 -- a telegram that was read is judged by its fields
 pub reply-judged : (desk : Desk) (frame : List ℕ) (room : ℕ) (reading : Reading) (t : Fields) (ticket : Ticket) (o : Option Unfit)
     → reading ≡ readFrame frame room → reading ≡ Telegram t → ticket ≡ ticketOn desk (t .destination) → fitRefusal ticket t ≡ o
-    → (readRefusal frame room ≡ none) × (t ≡ fieldsOf (messageOf frame)) × (replyRefusal desk frame room ≡ raised Misfit o)
+    → (readRefusal frame room ≡ none) × (t ≡ fieldsIn frame) × (replyRefusal desk frame room ≡ raised Misfit o)
 unfolding replyRefusal bookRefusal
 reply-judged desk frame room reading t ticket o p q on e =
     let a = reading-telegram frame room t (sym p ∙ q) in
@@ -136,20 +140,22 @@ reply-judged desk frame room reading t ticket o p q on e =
 
 -- ---- cancelling and expiring
 
-pub cancel-theirs : (desk : Desk) (job address : ℕ) (ticket : Ticket) → ticket ≡ ticketOn desk address → ticket .live ≡ true → ticket .job ≡ job
-    → cancelRefusal desk job address ≡ none
+pub cancel-told : (desk : Desk) (job address : ℕ) (ticket : Ticket) (theirs : Bool) → ticket ≡ ticketOn desk address → theirs ≡ isTheirs ticket job
+    → cancelRefusal desk job address ≡ cond theirs none (some NotTheirs)
 unfolding cancelRefusal
-cancel-theirs desk job address ticket on live theirs = rw (← on, live) (simp (eq-eqb (ticket .job) job theirs))
+cancel-told desk job address ticket theirs on e = rw (← on, ← e) (go theirs)
+  where
+    go : (b : Bool) → cond (not b) (some NotTheirs) none ≡ cond b none (some NotTheirs)
+    go true = refl
+    go false = refl
 
-pub cancel-other : (desk : Desk) (job address : ℕ) (ticket : Ticket) → ticket ≡ ticketOn desk address → ticket .live ≡ true → ticket .job ≢ job
-    → cancelRefusal desk job address ≡ some NotTheirs
-unfolding cancelRefusal
-cancel-other desk job address ticket on live other = rw (← on, live) (simp (ne-eqb (ticket .job) job other))
-
-pub cancel-none : (desk : Desk) (job address : ℕ) (ticket : Ticket) → ticket ≡ ticketOn desk address → ticket .live ≡ false
-    → cancelRefusal desk job address ≡ some NotTheirs
-unfolding cancelRefusal
-cancel-none desk job address ticket on dead = rw (← on, dead)
+-- whose ticket it is stands on a host address
+pub theirs-host : (desk : Desk) (job address : ℕ) (ticket : Ticket) → ticket ≡ ticketOn desk address → isTheirs ticket job ≡ true → 161 ≤ address
+theirs-host desk job address ticket on e = live-host desk address (rw (← on) (live (ticket .live) e))
+  where
+    live : (b : Bool) → (b && eqb (ticket .asked .job) job) ≡ true → b ≡ true
+    live true h = refl
+    live false h = h
 
 pub expire-nothing : (desk : Desk) (clock k : ℕ) → k ≡ duePlace desk clock → 95 ≤ k → expireRefusal desk clock ≡ some NothingDue
 unfolding expireRefusal

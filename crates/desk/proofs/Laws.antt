@@ -8,37 +8,44 @@ use mathlib.Core.Logic.{_≢_}
 use mathlib.Core.Option.{some, none}
 use Prim.Native.Nat.{ℕ, zero, suc, _+_, _-_, _%_, _≤_, _<_}
 use native.Mathlib.Omega.{arith}
-use borrow.Author.Tests.{ltb-false, leb-true, leb-false, not-true, not-false, le-ltb, le-leb}
+use borrow.Author.Tests.{ltb-false, leb-true, leb-false, not-false, le-ltb, le-leb}
 use lib.Dec.{eqb, ltb, leb}
 use lib.ListN.{length, getD, take, set}
-use lib.Seq.{getD-set-other}
-use Rattle.frame.specs.Frame.{framed, opens, messageOf}
+use lib.Seq.{getD-set-same, getD-set-other}
+use Rattle.rows.proofs.Settled.{settled, settled-parts}
+use Rattle.rows.specs.Settled.{Settled}
+use Rattle.first.proofs.Laws.{first-at}
+use Rattle.frame.specs.Frame.{framed, messageOf}
 use Rattle.lent.specs.Lent.{over}
 use Rattle.remainder.proofs.Laws.{burst-seen, nearby-burst}
 use Rattle.remainder.specs.Remainder.{remainderOf, combined, AlteredNearby}
 use Rattle.request.proofs.Laws.{allowed-writable}
 use Rattle.request.specs.Request.{askRefusal}
+use Rattle.request.specs.declared.Request.{Request}
 use Rattle.rows.proofs.Laws.{decides-eq, decides-and, decides-set, first-false, or-none, raised-none}
 use Rattle.rows.specs.Rows.{firstOf, raised}
-use Rattle.telegram.proofs.Laws.{fieldsFor, reads-back, altered-refused}
-use Rattle.telegram.specs.Read.{readRefusal, fieldsOf, dataOf, readFrame, Reads}
-use Rattle.telegram.specs.Write.{writeRefusal}
+use Rattle.telegram.proofs.Laws.{reads-back, altered-refused}
+use Rattle.telegram.proofs.Send.{telegram-long, length-messageFor}
+use Rattle.telegram.specs.Read.{readRefusal, fieldsIn, dataIn, readFrame, Reads}
+use Rattle.telegram.specs.Write.{messageFor, telegramFor, fieldsFor, writeRefusal}
 use Rattle.telegram.specs.declared.Fault.the-variants.{CheckFault}
 use Rattle.telegram.specs.declared.Fields.{Fields}
 use Rattle.telegram.specs.declared.Reading.{Reading}
 use Rattle.telegram.specs.declared.Reading.the-variants.{Telegram}
 use Rattle.telegram.specs.declared.Fault.{Fault as Unreadable}
+use Rattle.ticket.proofs.Laws.{fitting, decides-due, decides-free}
+use Rattle.ticket.specs.Due.{IsDue}
+use Rattle.ticket.specs.Fit.{KindFits, RegisterFits, fitRefusal}
+use Rattle.ticket.specs.Ticket.{Free, isFree, noTicket, newTicket}
+use Rattle.ticket.specs.declared.Ticket.{Ticket}
 use Rattle.desk.proofs.Answers.{opened-told, open-refused, book-refused, closed-told, close-refused, booked-told}
 use Rattle.desk.proofs.Calls.{live-host, only-room}
 use Rattle.desk.proofs.Ranking.{search-ended, due-ended}
-use Rattle.waiting.proofs.Laws.{fitting, decides-due}
-use Rattle.waiting.specs.Due.{IsDue}
-use Rattle.waiting.specs.Fit.{KindFits, RegisterFits, fitRefusal}
-use Rattle.desk.specs.Close.{cancelRefusal, Cancels, Expires, duePlace, expireRefusal}
-use Rattle.desk.specs.Open.{placeFrom, distanceOf, givenPlace, requestAt, placeTests, openRefusal, newTicket, withTicket, Opens}
-use Rattle.desk.specs.Reply.{bookRefusal, replyRefusal, Replies}
-use Rattle.desk.specs.Ticket.{noTicket, ticketAt, ticketOn, OpenOn, closedOn, Fresh, Looks, Numbers}
-use Rattle.waiting.specs.declared.Ticket.{Ticket}
+use Rattle.desk.specs.Close.{isTheirs, cancelRefusal, Cancels, Expires, duePlace, expireRefusal, withdrawnOn}
+use Rattle.desk.specs.Desk.{freshDesk, ticketAt, ticketOn, OpenOn, putAt, faultNumber, Fresh, Looks, Numbers}
+use Rattle.desk.specs.Open.{placeFrom, distanceOf, givenPlace, requestAt, placeTests, openRefusal, openAnswer, withTicket, Opens}
+use Rattle.desk.specs.Outcome.{Given, ClosedAlone, Books, Expired}
+use Rattle.desk.specs.Reply.{bookRefusal, replyRefusal, answeredOn, Replies}
 use Rattle.desk.specs.declared.Desk.{Desk}
 use Rattle.desk.specs.declared.Fault.{Fault}
 use Rattle.desk.specs.declared.Fault.the-variants.{Denied, AllOpen, NoRoom, Unread, Misfit, NotTheirs, NothingDue}
@@ -49,6 +56,7 @@ use Rattle.desk.specs.declared.Booking.the-variants.{Booked}
 use Rattle.desk.specs.declared.Closing.{Closing}
 use Rattle.desk.specs.declared.Closing.the-variants.{Closed}
 use Rattle.desk.specs.declared.Seen.{Seen}
+use Rattle.desk.specs.declared.Seen.the-variants as seen
 use Rattle.desk.specs.declared.AfterOpen.{AfterOpen}
 use Rattle.desk.specs.declared.AfterReply.{AfterReply}
 use Rattle.desk.specs.declared.AfterClose.{AfterClose}
@@ -56,79 +64,93 @@ use Rattle.desk.specs.declared.Opening.the-variants.{Refused as NotOpene
 use Rattle.desk.specs.declared.Booking.the-variants.{Refused as NotBooked}
 use Rattle.desk.specs.declared.Closing.the-variants.{Refused as NotClosed}
 
--- ---- 01: "The address given is the first one without a ticket, from the turn upwards and after 255 from 161 on. The turn then moves to
--- the address after it, again with 161 after 255."
-
-pub record Given (desk : Desk) (address : ℕ) (desk′ : Desk) : Type 0 where
-  pub host : 161 ≤ address
-  pub last : address ≤ 255
-  pub free : ticketOn desk address .live ≡ false
-  pub found : address ≡ 161 + (desk .turn + distanceOf desk) % 95
-  pub near : distanceOf desk < 95
-  pub passed : (k : ℕ) → k < distanceOf desk → OpenOn desk (161 + (desk .turn + k) % 95)
-  pub turn-after : desk′ .turn ≡ (address - 161 + 1) % 95
+-- ---- a store at one place
 
 -- what stands on a host address stands at its place
 pub on-host : (desk : Desk) (place : ℕ) → ticketOn desk (161 + place) ≡ ticketAt desk place
 on-host desk place = let p : 161 + place - 161 ≡ place = omega arith in rw (le-leb 161 (161 + place) (omega arith), p)
 
-pub given-at : (desk : Desk) (ticket : Ticket) → distanceOf desk < 95 → Given desk (161 + givenPlace desk) (withTicket desk (givenPlace desk) ticket)
+-- every other address is as before, whatever the turn is then
+pub stored-other : (desk : Desk) (turn place : ℕ) (ticket : Ticket) (other : ℕ) → other ≢ 161 + place
+    → ticketOn (record { turn = turn; tickets = set (desk .tickets) place ticket }) other ≡ ticketOn desk other
+stored-other desk turn place ticket other n = go (leb 161 other) refl
+  where
+    go : (t : Bool) → leb 161 other ≡ t
+        → cond t (getD (set (desk .tickets) place ticket) (other - 161) noTicket) noTicket ≡ cond t (ticketAt desk (other - 161)) noTicket
+    go true e = getD-set-other (desk .tickets) place (other - 161) ticket noTicket (λ p. n (omega (arith, leb-true 161 other e)))
+    go false e = refl
+
+-- ---- 01: "The address given is the first one without a ticket, from the turn upwards and after 255 from 161 on. The turn then moves to
+-- the address after it, again with 161 after 255."
+
+-- on a desk of 95 places, as every call leaves it
+pub given-at : (desk : Desk) (asked : Request) (clock : ℕ) → length (desk .tickets) ≡ 95 → distanceOf desk < 95
+    → Given desk asked clock (161 + givenPlace desk) (withTicket desk (givenPlace desk) (newTicket asked clock))
 unfolding givenPlace
-given-at desk ticket near =
+given-at desk asked clock places near =
     let e = search-ended desk in
+    let place : ℕ = placeFrom (desk .turn) (distanceOf desk) in
     record {
       host = omega arith;
       last = omega arith;
-      free = ap (λ (t : Ticket). t .live) (on-host desk (placeFrom (desk .turn) (distanceOf desk))) ∙ not-true _ (e .there near);
+      free = rw (on-host desk place) (decides-free (ticketAt desk place) .so (e .there near));
       found = refl;
       near = near;
-      passed = λ k h. ap (λ (t : Ticket). t .live) (on-host desk (placeFrom (desk .turn) k)) ∙ not-false _ (e .before k h);
-      turn-after = let p : 161 + placeFrom (desk .turn) (distanceOf desk) - 161 ≡ placeFrom (desk .turn) (distanceOf desk) = omega arith in rw p;
+      passed = λ k h.
+          rw (on-host desk (placeFrom (desk .turn) k)) (decides-free (ticketAt desk (placeFrom (desk .turn) k)) .not-so (e .before k h));
+      stands =
+          on-host (withTicket desk place (newTicket asked clock)) place
+          ∙ getD-set-same (desk .tickets) place (newTicket asked clock) noTicket (omega arith);
+      others = stored-other desk ((place + 1) % 95) place (newTicket asked clock);
+      turn-after = let p : 161 + place - 161 ≡ place = omega arith in rw p;
     }
 
 -- what no row refuses fits
-pub fit-to-open : (desk : Desk) (ticket : Ticket) (bytes : List ℕ) (room : ℕ) → openRefusal desk ticket bytes room ≡ none
-    → (askRefusal (ticket .job) (ticket .unit) (ticket .sort) bytes (ticket .wait) ≡ none) × (distanceOf desk < 95)
-    × (length (requestAt (givenPlace desk) ticket bytes) ≤ room)
+pub fit-to-open : (desk : Desk) (asked : Request) (bytes : List ℕ) (room : ℕ) → openRefusal desk asked bytes room ≡ none
+    → (askRefusal asked bytes ≡ none) × (distanceOf desk < 95) × (length (requestAt (givenPlace desk) asked bytes) ≤ room)
 unfolding openRefusal
-fit-to-open desk ticket bytes room e =
-    let request : List ℕ = requestAt (givenPlace desk) ticket bytes in
-    let asked = askRefusal (ticket .job) (ticket .unit) (ticket .sort) bytes (ticket .wait) in
-    let a = or-none (raised Denied asked) (firstOf (placeTests (distanceOf desk) request room)) e in
+fit-to-open desk asked bytes room e =
+    let request : List ℕ = requestAt (givenPlace desk) asked bytes in
+    let a = or-none (raised Denied (askRefusal asked bytes)) (firstOf (placeTests (distanceOf desk) request room)) e in
     let b = first-false (leb 95 (distanceOf desk)) AllOpen _ (a .1) in
     let d = first-false (ltb room (length request)) NoRoom _ (b .1) in
-    (raised-none Denied asked (a .0), leb-false _ _ (b .0), ltb-false _ _ (d .0))
+    (raised-none Denied (askRefusal asked bytes) (a .0), leb-false _ _ (b .0), ltb-false _ _ (d .0))
 
 -- of what opening answers, by its contract
-module _ (desk : Desk) (job unit sort register : ℕ) (bytes : List ℕ) (wait clock : ℕ) (room : List ℕ) (r : AfterOpen) (room′ : List ℕ)
-    (opens : Opens desk job unit sort register bytes wait clock room r room′) where
-  abbrev asked : Ticket
-  asked = newTicket job unit sort register wait clock
-
+module _ (desk : Desk) (asked : Request) (bytes : List ℕ) (clock : ℕ) (room : List ℕ) (r : AfterOpen) (room′ : List ℕ)
+    (opens : Opens desk asked bytes clock room r room′) where
   pub opened-fit : (address n : ℕ) → r .answer ≡ Opened address n
       → (openRefusal desk asked bytes (length room) ≡ none) × (address ≡ 161 + givenPlace desk) × (n ≡ length (requestAt (givenPlace desk) asked bytes))
   opened-fit address n e = opened-told _ _ _ address n (sym e ∙ opens .0)
 
-  pub opened-given : (address n : ℕ) → r .answer ≡ Opened address n → Given desk address (r .desk)
-  opened-given address n e =
+  pub opened-given : (address n : ℕ) → length (desk .tickets) ≡ 95 → r .answer ≡ Opened address n → Given desk asked clock address (r .desk)
+  opened-given address n places e =
       let a = opened-fit address n e in
-      let there : r .desk ≡ withTicket desk (givenPlace desk) asked = opens .1 ∙ rw (a .0) in
-      rw (a .1, there) (given-at desk asked (fit-to-open desk asked bytes (length room) (a .0) .1))
+      let there : r .desk ≡ withTicket desk (givenPlace desk) (newTicket asked clock) = opens .1 ∙ rw (a .0) in
+      rw (a .1, there) (given-at desk asked clock places (fit-to-open desk asked bytes (length room) (a .0) .1))
 
   -- 01: "The request telegram is written with that address as source, into the first bytes of the lent buffer": read with room for the
   -- data, it gives back what was asked
   pub request-reads-back : (address n : ℕ) → r .answer ≡ Opened address n
       → (buffer : List ℕ) (a : Reading) (buffer′ : List ℕ) → length bytes ≤ length buffer → Reads (take n room′) buffer a buffer′
-      → (a ≡ Telegram (fieldsFor unit address sort register bytes)) × (buffer′ ≡ over bytes buffer)
+      → (a ≡ Telegram (fieldsFor (asked .unit) address (asked .sort) (asked .register) bytes)) × (buffer′ ≡ over bytes buffer)
   request-reads-back address n e buffer a buffer′ h reads =
       let o = opened-fit address n e in
       let fit = fit-to-open desk asked bytes (length room) (o .0) in
-      let can = allowed-writable job unit sort bytes wait (fit .0) in
-      let wrote : writeRefusal unit address sort register bytes (length room) ≡ none =
-      only-room unit address sort register bytes (length room) (can .0) (can .1) (λ z. omega (arith, o .1)) (can .2)
+      let can = allowed-writable asked bytes (fit .0) in
+      let wrote : writeRefusal (asked .unit) address (asked .sort) (asked .register) bytes (length room) ≡ none =
+      only-room (asked .unit) address (asked .sort) (asked .register) bytes (length room) (can .0) (can .1) (λ z. omega (arith, o .1)) (can .2)
       ∙ rw (o .1) (simp (le-ltb (length room) (length (requestAt (givenPlace desk) asked bytes)) (fit .2))) in
-      reads-back unit address sort register bytes room n room′
+      reads-back (asked .unit) address (asked .sort) (asked .register) bytes room n room′
       (rw (wrote, o .2, o .1) refl, opens .2 ∙ rw (o .0, wrote, o .1)) buffer a buffer′ h reads
+
+  -- "into the first bytes of the lent buffer; the address and the telegram's length are answered": every byte behind it stays
+  pub request-written : (address n : ℕ) → r .answer ≡ Opened address n
+      → (n ≡ length (telegramFor (asked .unit) address (asked .sort) (asked .register) bytes))
+      × (room′ ≡ over (telegramFor (asked .unit) address (asked .sort) (asked .register) bytes) room)
+  request-written address n e =
+      let o = opened-fit address n e in
+      (o .2 ∙ rw (o .1), opens .2 ∙ rw (o .0, o .1))
 
   -- 01: "It returns its number only, and every buffer, ticket and register and the desk's turn are as before."
   pub open-refusal-keeps : (f : Fault) → r .answer ≡ NotOpened f → (r .desk ≡ desk) × (room′ ≡ room)
@@ -136,74 +158,70 @@ module _ (desk : Desk) (job unit sort register : ℕ) (bytes : List ℕ) (wait c
       let o = open-refused (openRefusal desk asked bytes (length room)) _ _ f (sym e ∙ opens .0) in
       (opens .1 ∙ rw o, opens .2 ∙ rw o)
 
+-- 01: "A fresh desk has no tickets and its next turn at 161": whatever may be asked is opened there, with room for the longest telegram
+pub fresh-opens : (asked : Request) (bytes : List ℕ) (clock : ℕ) (room : List ℕ) (r : AfterOpen) (room′ : List ℕ)
+    → Opens freshDesk asked bytes clock room r room′ → askRefusal asked bytes ≡ none → 494 ≤ length room
+    → r .answer ≡ Opened 161 (length (requestAt 0 asked bytes))
+unfolding openRefusal givenPlace distanceOf
+fresh-opens asked bytes clock room r room′ opens allowed wide =
+    let near : distanceOf freshDesk ≡ 0 = first-at (λ k. isFree (ticketAt freshDesk (placeFrom 0 k))) 95 0 (omega arith) (λ i l. absurd (omega arith)) refl in
+    let can = allowed-writable asked bytes allowed in
+    let sized = length-messageFor (asked .unit) 161 (asked .sort) (asked .register) bytes in
+    let long : length (requestAt 0 asked bytes) ≤ 494 =
+    telegram-long (messageFor (asked .unit) 161 (asked .sort) (asked .register) bytes) (omega (arith, sized, can .0)) in
+    opens .0 ∙ rw (near, allowed) (simp (le-ltb (length room) (length (requestAt 0 asked bytes)) (omega arith)))
+
 -- ---- 01: "A booked reply closes the ticket [..] and frees the address", "Cancel closes the ticket that is open on the address", "Expire
 -- closes one ticket": each closes one and leaves the others and the turn
-
-pub record ClosedAlone (desk : Desk) (address : ℕ) (desk′ : Desk) : Type 0 where
-  pub was-open : OpenOn desk address
-  pub closed : ticketOn desk′ address ≡ noTicket
-  pub others : (other : ℕ) → other ≢ address → ticketOn desk′ other ≡ ticketOn desk other
-  pub turn-kept : desk′ .turn ≡ desk .turn
 
 emptied : (l : List Ticket) (i : ℕ) → getD (set l i noTicket) i noTicket ≡ noTicket
 emptied [] i = refl
 emptied (t ∷ l) zero = refl
 emptied (t ∷ l) (suc i) = emptied l i
 
-pub closes-alone : (desk : Desk) (address : ℕ) → OpenOn desk address → ClosedAlone desk address (closedOn desk address)
+closes-alone : (desk : Desk) (address : ℕ) → OpenOn desk address → ClosedAlone desk address (putAt desk (address - 161) noTicket)
 closes-alone desk address live =
     record {
       was-open = live;
       closed = rw (le-leb 161 address host) (emptied (desk .tickets) (address - 161));
-      others = λ other n. apart other n (leb 161 other) refl;
+      others = λ other n. stored-other desk (desk .turn) (address - 161) noTicket other (λ e. n (omega (arith, host)));
       turn-kept = refl;
     }
   where
     host : 161 ≤ address
     host = live-host desk address live
 
-    apart : (other : ℕ) → other ≢ address → (t : Bool) → leb 161 other ≡ t
-        → cond t (ticketAt (closedOn desk address) (other - 161)) noTicket ≡ cond t (ticketAt desk (other - 161)) noTicket
-    apart other n true e =
-        getD-set-other (desk .tickets) (address - 161) (other - 161) noTicket noTicket (λ p. n (omega (arith, leb-true 161 other e, host)))
-    apart other n false e = refl
+pub answers-alone : (desk : Desk) (address : ℕ) → OpenOn desk address → ClosedAlone desk address (answeredOn desk address)
+answers-alone = closes-alone
+
+pub withdraws-alone : (desk : Desk) (address : ℕ) → OpenOn desk address → ClosedAlone desk address (withdrawnOn desk address)
+withdraws-alone = closes-alone
 
 -- ---- 01: "A reply is first read as a telegram [..]. A read is answered by type 8, 0, 1 or 2, a write of any sort by 3, 0, 1 or 2. A
 -- datagram's register must equal the ticket's. [..] A booked reply closes the ticket, answers its job, address, type and data"
 
-pub record Books (desk : Desk) (frame : List ℕ) (room : ℕ) (t : Fields) (job address sort n : ℕ) (desk′ : Desk) : Type 0 where
-  pub was-read : readFrame frame room ≡ Telegram t
-  pub for-address : address ≡ t .destination
-  pub theirs : job ≡ ticketOn desk address .job
-  pub from-module : t .source ≡ ticketOn desk address .unit
-  pub kind-fits : KindFits (ticketOn desk address .sort) (t .sort)
-  pub register-fits : RegisterFits (ticketOn desk address .register) (t .sort) (t .register)
-  pub type-answered : sort ≡ t .sort
-  pub size-answered : n ≡ t .size
-  pub closes : ClosedAlone desk address desk′
-
 pub fit-to-book : (desk : Desk) (frame : List ℕ) (room : ℕ) → replyRefusal desk frame room ≡ none
     → (readRefusal frame room ≡ none)
-    × OpenOn desk (fieldsOf (messageOf frame) .destination)
-    × (fieldsOf (messageOf frame) .source ≡ ticketOn desk (fieldsOf (messageOf frame) .destination) .unit)
-    × KindFits (ticketOn desk (fieldsOf (messageOf frame) .destination) .sort) (fieldsOf (messageOf frame) .sort)
-    × RegisterFits (ticketOn desk (fieldsOf (messageOf frame) .destination) .register) (fieldsOf (messageOf frame) .sort) (fieldsOf (messageOf frame) .register)
+    × OpenOn desk (fieldsIn frame .destination)
+    × (fieldsIn frame .source ≡ ticketOn desk (fieldsIn frame .destination) .asked .unit)
+    × KindFits (ticketOn desk (fieldsIn frame .destination) .asked .sort) (fieldsIn frame .sort)
+    × RegisterFits (ticketOn desk (fieldsIn frame .destination) .asked .register) (fieldsIn frame .sort) (fieldsIn frame .register)
 unfolding replyRefusal bookRefusal
 fit-to-book desk frame room e =
-    let t : Fields = fieldsOf (messageOf frame) in
+    let t : Fields = fieldsIn frame in
     let a = or-none (raised Unread (readRefusal frame room)) (bookRefusal desk t) e in
     let fit = fitting (ticketOn desk (t .destination)) t (raised-none Misfit (fitRefusal (ticketOn desk (t .destination)) t) (a .1)) in
     (raised-none Unread (readRefusal frame room) (a .0), fit .0, fit .1, fit .2, fit .3)
 
 module _ (desk : Desk) (frame room : List ℕ) (r : AfterReply) (room′ : List ℕ) (replies : Replies desk frame room r room′) where
   pub booked-right : (job address sort n : ℕ) → r .answer ≡ Booked job address sort n
-      → Books desk frame (length room) (fieldsOf (messageOf frame)) job address sort n (r .desk) × (room′ ≡ over (dataOf (messageOf frame)) room)
+      → Books desk frame (length room) (fieldsIn frame) job address sort n (r .desk) × (room′ ≡ over (dataIn frame) room)
   unfolding readFrame
   booked-right job address sort n e =
-      let t : Fields = fieldsOf (messageOf frame) in
+      let t : Fields = fieldsIn frame in
       let b = booked-told (replyRefusal desk frame (length room)) (ticketOn desk (t .destination)) t job address sort n (sym e ∙ replies .0) in
       let fit = fit-to-book desk frame (length room) (b .0) in
-      let there : r .desk ≡ closedOn desk (t .destination) = replies .1 ∙ rw (b .0) in (
+      let there : r .desk ≡ answeredOn desk (t .destination) = replies .1 ∙ rw (b .0) in (
         record {
           was-read = rw (fit .0);
           for-address = b .2;
@@ -213,7 +231,7 @@ module _ (desk : Desk) (frame room : List ℕ) (r : AfterReply) (room′ : List 
           register-fits = rw (b .2) (fit .4);
           type-answered = b .3;
           size-answered = b .4;
-          closes = rw (b .2, there) (closes-alone desk (t .destination) (fit .1));
+          closes = rw (b .2, there) (answers-alone desk (t .destination) (fit .1));
         },
         replies .2 ∙ rw (b .0),
       )
@@ -229,7 +247,7 @@ module _ (desk : Desk) (frame room : List ℕ) (r : AfterReply) (room′ : List 
   unread-passed-up f e = replies .0 ∙ rw e
 
 -- ---- M 3, for any desk: "Take any accepted message and alter one or more bits, all within 16 neighbouring bits [..]. Frame it again and
--- offer it with 240 bytes of room. It is refused as a check fault, and no ticket [..] changes." Stated of any alteration of the same length
+-- offer it with 240 bytes of room. It is refused as a check fault, closes no ticket" Stated of any alteration of the same length
 -- whose own remainder is not 0.
 
 pub altered-reply : (frame : List ℕ) (offered : ℕ) (t : Fields) → readFrame frame offered ≡ Telegram t
@@ -249,28 +267,21 @@ nearby-reply frame offered t e m near = altered-reply frame offered t e m (near 
 
 -- ---- 01: "Cancel closes the ticket that is open on the address for that job now, frees it at once, and answers job and address."
 
-pub fit-to-cancel : (desk : Desk) (job address : ℕ) → cancelRefusal desk job address ≡ none → OpenOn desk address × (ticketOn desk address .job ≡ job)
+pub fit-to-cancel : (desk : Desk) (job address : ℕ) → cancelRefusal desk job address ≡ none → OpenOn desk address × (ticketOn desk address .asked .job ≡ job)
 unfolding cancelRefusal
 fit-to-cancel desk job address e =
-    let b = first-false (not (ticketOn desk address .live && eqb (ticketOn desk address .job) job)) NotTheirs none e in
-    decides-and (decides-set (ticketOn desk address .live)) (decides-eq (ticketOn desk address .job) job) .so (not-false _ (b .0))
+    let b = first-false (not (isTheirs (ticketOn desk address) job)) NotTheirs none e in
+    decides-and (decides-set (ticketOn desk address .live)) (decides-eq (ticketOn desk address .asked .job) job) .so (not-false _ (b .0))
 
 pub cancelled-right : (desk : Desk) (job address : ℕ) (r : AfterClose) (job′ address′ : ℕ) → Cancels desk job address r → r .answer ≡ Closed job′ address′
-    → (job′ ≡ job) × (address′ ≡ address) × (ticketOn desk address .job ≡ job) × ClosedAlone desk address (r .desk)
+    → (job′ ≡ job) × (address′ ≡ address) × (ticketOn desk address .asked .job ≡ job) × ClosedAlone desk address (r .desk)
 cancelled-right desk job address r job′ address′ c e =
     let a = closed-told (cancelRefusal desk job address) (ticketOn desk address) address job′ address′ (sym e ∙ c .0) in
     let fit = fit-to-cancel desk job address (a .0) in
-    let there : r .desk ≡ closedOn desk address = c .1 ∙ rw (a .0) in
-    (a .1 ∙ fit .1, a .2, fit .1, rw there (closes-alone desk address (fit .0)))
+    let there : r .desk ≡ withdrawnOn desk address = c .1 ∙ rw (a .0) in
+    (a .1 ∙ fit .1, a .2, fit .1, rw there (withdraws-alone desk address (fit .0)))
 
 -- ---- 01: "Expire closes one ticket, the due one with the lowest address, and answers job and address."
-
-pub record Expired (desk : Desk) (clock job address : ℕ) (desk′ : Desk) : Type 0 where
-  pub due : IsDue clock (ticketOn desk address)
-  pub lowest : (other : ℕ) → 161 ≤ other → other < address → IsDue clock (ticketOn desk other) → ⊥
-  pub last : address ≤ 255
-  pub theirs : job ≡ ticketOn desk address .job
-  pub closes : ClosedAlone desk address desk′
 
 pub fit-to-expire : (desk : Desk) (clock : ℕ) → expireRefusal desk clock ≡ none
     → (duePlace desk clock < 95) × IsDue clock (ticketOn desk (161 + duePlace desk clock))
@@ -286,14 +297,15 @@ expired-right desk clock r job address x e =
     let place : ℕ = duePlace desk clock in
     let a = closed-told (expireRefusal desk clock) (ticketOn desk (161 + place)) (161 + place) job address (sym e ∙ x .0) in
     let fit = fit-to-expire desk clock (a .0) in
-    let there : r .desk ≡ closedOn desk (161 + place) = x .1 ∙ rw (a .0) in
+    let there : r .desk ≡ withdrawnOn desk (161 + place) = x .1 ∙ rw (a .0) in
     record {
       due = rw (a .2) (fit .1);
       lowest = λ other h under found.
-          decides-due clock (ticketAt desk (other - 161)) .not-so (due-ended desk clock .before (other - 161) (omega (arith, a .2))) (rw (le-leb 161 other h) at found);
+          decides-due clock (ticketAt desk (other - 161)) .not-so (due-ended desk clock .before (other - 161) (omega (arith, a .2)))
+          (rw (le-leb 161 other h) at found);
       last = omega (arith, a .2, fit .0);
       theirs = rw (a .2) (a .1);
-      closes = rw (a .2, there) (closes-alone desk (161 + place) (fit .1 .0));
+      closes = rw (a .2, there) (withdraws-alone desk (161 + place) (fit .1 .0));
     }
 
 pub cancel-refusal-keeps : (desk : Desk) (job address : ℕ) (r : AfterClose) (f : Fault) → Cancels desk job address r → r .answer ≡ NotClosed f → r .desk ≡ desk
@@ -302,31 +314,50 @@ cancel-refusal-keeps desk job address r f c e = let o = close-refused (cancelRef
 pub expire-refusal-keeps : (desk : Desk) (clock : ℕ) (r : AfterClose) (f : Fault) → Expires desk clock r → r .answer ≡ NotClosed f → r .desk ≡ desk
 expire-refusal-keeps desk clock r f x e = let o = close-refused (expireRefusal desk clock) _ _ f (sym e ∙ x .0) in x .1 ∙ rw o
 
+-- ---- looking at an address shows the ticket that is open there, and nothing where none is
+
+pub look-open : (desk : Desk) (address : ℕ) (r : Seen) → Looks desk address r → ticketOn desk address .live ≡ true → r ≡ seen.Open (ticketOn desk address)
+look-open desk address r p live = p ∙ rw live
+
+pub look-nothing : (desk : Desk) (address : ℕ) (r : Seen) → Looks desk address r → ticketOn desk address .live ≡ false → r ≡ seen.Nothing
+look-nothing desk address r p free = p ∙ rw free
+
+-- the call `number` gives the number that the laws above tell
+pub number-is : (f : Fault) (r : ℕ) → Numbers f r → r ≡ faultNumber f
+number-is f r p = p
+
+-- ---- 01: "A fresh desk has no tickets and its next turn at 161": `fresh` gives the desk that the laws here and those of any night begin at
+
+pub fresh-is : (desk : Desk) → Fresh desk → desk ≡ freshDesk
+fresh-is desk p = p
+
 -- ---- 01: "Show that any two outcomes allowed by it are equal."
 
-pub fresh-once : {a b : Desk} → Fresh a → Fresh b → a ≡ b
-fresh-once p q = p ∙ sym q
+pub fresh-settled : Settled Fresh
+fresh-settled = settled _
 
-pub numbers-once : (f : Fault) {a b : ℕ} → Numbers f a → Numbers f b → a ≡ b
-numbers-once f p q = p ∙ sym q
+pub numbers-settled : (f : Fault) → Settled (Numbers f)
+numbers-settled f = settled _
 
-pub looks-once : (desk : Desk) (address : ℕ) {a b : Seen} → Looks desk address a → Looks desk address b → a ≡ b
-looks-once desk address p q = p ∙ sym q
+pub looks-settled : (desk : Desk) (address : ℕ) → Settled (Looks desk address)
+looks-settled desk address = settled _
 
-pub opens-once : (desk : Desk) (job unit sort register : ℕ) (bytes : List ℕ) (wait clock : ℕ) (room : List ℕ) {a b : AfterOpen} {x y : List ℕ}
-    → Opens desk job unit sort register bytes wait clock room a x → Opens desk job unit sort register bytes wait clock room b y → (a ≡ b) × (x ≡ y)
-opens-once desk job unit sort register bytes wait clock room p q =
-    (ap₂ (λ (d : Desk) (o : Opening). record { desk = d; answer = o }) (p .1 ∙ sym (q .1)) (p .0 ∙ sym (q .0)), p .2 ∙ sym (q .2))
+pub opens-settled : (desk : Desk) (asked : Request) (bytes : List ℕ) (clock : ℕ) (room : List ℕ) → Settled {A = AfterOpen × List ℕ} (λ o. Opens desk asked bytes clock room (o .0) (o .1))
+opens-settled desk asked bytes clock room = settled-parts (λ (a : Opening) (b : Desk). record { answer = a; desk = b }) (λ r. r .answer) (λ r. r .desk) (λ r. refl) (λ a b. (refl, refl)) _ _ _
 
-pub replies-once : (desk : Desk) (frame room : List ℕ) {a b : AfterReply} {x y : List ℕ} → Replies desk frame room a x → Replies desk frame room b y → (a ≡ b) × (x ≡ y)
-replies-once desk frame room p q =
-    (ap₂ (λ (d : Desk) (o : Booking). record { desk = d; answer = o }) (p .1 ∙ sym (q .1)) (p .0 ∙ sym (q .0)), p .2 ∙ sym (q .2))
+pub replies-settled : (desk : Desk) (frame room : List ℕ) → Settled {A = AfterReply × List ℕ} (λ o. Replies desk frame room (o .0) (o .1))
+replies-settled desk frame room = settled-parts (λ (a : Booking) (b : Desk). record { answer = a; desk = b }) (λ r. r .answer) (λ r. r .desk) (λ r. refl) (λ a b. (refl, refl)) _ _ _
 
-after-once : {a b : AfterClose} → a .answer ≡ b .answer → a .desk ≡ b .desk → a ≡ b
-after-once p q = ap₂ (λ (d : Desk) (o : Closing). record { desk = d; answer = o }) q p
+closed-settled : (x : Closing) (y : Desk) → Settled {A = AfterClose} (λ r. (r .answer ≡ x) × (r .desk ≡ y))
+closed-settled x y =
+    record {
+      outcome = record { answer = x; desk = y };
+      is-allowed = (refl, refl);
+      only = λ other p. ap₂ (λ (a : Closing) (b : Desk). record { answer = a; desk = b }) (p .0) (p .1);
+    }
 
-pub cancels-once : (desk : Desk) (job address : ℕ) {a b : AfterClose} → Cancels desk job address a → Cancels desk job address b → a ≡ b
-cancels-once desk job address p q = after-once (p .0 ∙ sym (q .0)) (p .1 ∙ sym (q .1))
+pub cancels-settled : (desk : Desk) (job address : ℕ) → Settled (Cancels desk job address)
+cancels-settled desk job address = closed-settled _ _
 
-pub expires-once : (desk : Desk) (clock : ℕ) {a b : AfterClose} → Expires desk clock a → Expires desk clock b → a ≡ b
-expires-once desk clock p q = after-once (p .0 ∙ sym (q .0)) (p .1 ∙ sym (q .1))
+pub expires-settled : (desk : Desk) (clock : ℕ) → Settled (Expires desk clock)
+expires-settled desk clock = closed-settled _ _

@@ -1,41 +1,41 @@
 -- Rows 10 to 22 are tested as 01 words them, in the order of each call: what a call refuses is what its rows give.
 -- Assumes nothing.
-use mathlib.Core.Path.{_≡_, refl, sym, ap, _∙_}
-use mathlib.Core.Bool.{true, false, not, true≢false}
-use mathlib.Core.List.{List}
-use mathlib.Core.Logic.{_↔_}
-use mathlib.Core.Option.{Option, none}
-use Prim.Native.Nat.{ℕ, _+_, _-_, _%_, _<_}
+use mathlib.Core.Path.{_≡_, refl, ap, _∙_}
+use mathlib.Core.Bool.{true, false}
+use mathlib.Core.List.{List, [], _∷_}
+use mathlib.Core.Logic.{_⊎_}
+use mathlib.Core.Option.{Option, some, none}
+use Prim.Native.Nat.{ℕ, _+_, _-_, _%_, _≤_, _<_}
 use native.Mathlib.Omega.{arith}
-use borrow.Author.Tests.{leb-true, leb-false, not-true, not-false}
+use borrow.Author.Tests.{leb-true, leb-false}
 use lib.Dec.{leb}
 use lib.ListN.{length}
 use Rattle.first.proofs.Laws.{Ended, ended}
-use Rattle.frame.specs.Frame.{messageOf}
 use Rattle.request.proofs.Laws.{ask-ranked}
-use Rattle.request.specs.Request.{askRows, askRefusal}
-use Rattle.rows.proofs.Laws.{Decides, decides-lt, decides-eq, decides-not, decides-and, decides-set, ranked, _otherwise_, ranked-append, ranked-up, told-exactly, clash}
-use Rattle.rows.specs.Rows.{First, NoRow, Ranked, firstOf, passedUp, raised}
+use Rattle.request.specs.Request.{IsNoJob, IsNotAModule, IsNotARequest, IsWrongData, IsWrongWait, askRows, askRefusal}
+use Rattle.request.specs.declared.Request.{Request}
+use Rattle.rows.proofs.Laws.{Decides, decides-lt, decides-eq, decides-not, decides-and, decides-set, ranked, _otherwise_, ranked-append, ranked-up, numbered}
+use Rattle.rows.specs.Rows.{Ranked, Numbered, row, firstOf, passedUp, raised}
 use Rattle.telegram.proofs.Ranking.{read-ranked}
-use Rattle.telegram.specs.Read.{readRows, readRefusal, fieldsOf}
+use Rattle.telegram.specs.Read.{readRows, readRefusal, fieldsIn}
 use Rattle.telegram.specs.declared.Fields.{Fields}
-use Rattle.waiting.proofs.Laws.{fit-ranked, decides-due}
-use Rattle.waiting.specs.Due.{IsDue, isDue}
-use Rattle.waiting.specs.Fit.{fitRows, fitRefusal}
-use Rattle.waiting.specs.declared.Ticket.{Ticket}
-use Rattle.desk.specs.Close.{IsNotTheirs, cancelRows, cancelRefusal, IsNothingDue, expireRows, duePlace, expireRefusal, cancelTests, expireTests, closeAnswer, Cancels, Expires}
-use Rattle.desk.specs.Open.{placeFrom, distanceOf, givenPlace, requestAt, IsAllOpen, IsNoRoom, placeRows, placeTests, openRefusal, openRows, openAnswer, newTicket, Opens}
-use Rattle.desk.specs.Reply.{bookRows, replyRows, bookRefusal, replyRefusal, bookAnswer, Replies}
-use Rattle.desk.specs.Ticket.{ticketAt, ticketOn}
+use Rattle.ticket.proofs.Laws.{fit-ranked, decides-due, decides-free}
+use Rattle.ticket.specs.Due.{age, IsDue, isDue}
+use Rattle.ticket.specs.Fit.{fitRows, fitRefusal}
+use Rattle.ticket.specs.Ticket.{Free, isFree}
+use Rattle.ticket.specs.declared.Ticket.{Ticket}
+use Rattle.desk.specs.Close.{IsNotTheirs, cancelRows, cancelRefusal, IsNothingDue, expireRows, duePlace, expireRefusal, cancelTests, expireTests}
+use Rattle.desk.specs.Close.{closeAnswer, closeTold, Cancels, Expires}
+use Rattle.desk.specs.Open.{placeFrom, distanceOf, givenPlace, requestAt, IsAllOpen, IsNoRoom, placeRows, placeTests, openRefusal, openRows}
+use Rattle.desk.specs.Open.{openAnswer, openTold, Opens}
+use Rattle.desk.specs.Reply.{bookRows, replyRows, bookRefusal, replyRefusal, bookAnswer, bookTold, Replies}
+use Rattle.desk.specs.Desk.{ticketAt, ticketOn, faultNumber}
 use Rattle.desk.specs.declared.Desk.{Desk}
 use Rattle.desk.specs.declared.Fault.{Fault}
 use Rattle.desk.specs.declared.Fault.the-variants.{Denied, Unread, Misfit}
 use Rattle.desk.specs.declared.AfterOpen.{AfterOpen}
 use Rattle.desk.specs.declared.AfterReply.{AfterReply}
 use Rattle.desk.specs.declared.AfterClose.{AfterClose}
-use Rattle.desk.specs.declared.Opening.the-variants as opening
-use Rattle.desk.specs.declared.Booking.the-variants as booking
-use Rattle.desk.specs.declared.Closing.the-variants as closing
 
 -- ---- 15 and 16
 
@@ -44,39 +44,38 @@ pub reached : (turn place : ℕ) → place < 95 → (k : ℕ) × (k < 95) × (pl
 reached turn place h = ((place + 95 - turn % 95) % 95, omega arith, omega arith)
 
 -- where the search from the turn has ended
-pub search-ended : (desk : Desk) → Ended (λ k. not (ticketAt desk (placeFrom (desk .turn) k) .live)) 95 (distanceOf desk)
+pub search-ended : (desk : Desk) → Ended (λ k. isFree (ticketAt desk (placeFrom (desk .turn) k))) 95 (distanceOf desk)
 unfolding distanceOf
-search-ended desk = ended (λ k. not (ticketAt desk (placeFrom (desk .turn) k) .live)) 95
+search-ended desk = ended (λ k. isFree (ticketAt desk (placeFrom (desk .turn) k))) 95
 
 decides-all-open : (desk : Desk) → Decides (leb 95 (distanceOf desk)) (IsAllOpen desk)
 unfolding IsAllOpen
 decides-all-open desk = record { so = all; not-so = some-free }
   where
-    all : leb 95 (distanceOf desk) ≡ true → (place : ℕ) → place < 95 → ticketAt desk place .live ≡ true
-    all far place h =
+    all : leb 95 (distanceOf desk) ≡ true → (place : ℕ) → place < 95 → Free (ticketAt desk place) → ⊥
+    all far place h free =
         let k = reached (desk .turn) place h in
-        ap (λ (p : ℕ). ticketAt desk p .live) (sym (k .2))
-        ∙ not-false _ (search-ended desk .before (k .0) (omega (arith, k .1, leb-true 95 (distanceOf desk) far)))
+        decides-free (ticketAt desk (placeFrom (desk .turn) (k .0))) .not-so
+        (search-ended desk .before (k .0) (omega (arith, k .1, leb-true 95 (distanceOf desk) far))) (rw (k .2) free)
 
-    some-free : leb 95 (distanceOf desk) ≡ false → ((place : ℕ) → place < 95 → ticketAt desk place .live ≡ true) → ⊥
-    some-free near every =
+    some-free : leb 95 (distanceOf desk) ≡ false → ((place : ℕ) → place < 95 → Free (ticketAt desk place) → ⊥) → ⊥
+    some-free near nowhere =
         let h : distanceOf desk < 95 = leb-false 95 (distanceOf desk) near in
-        true≢false (sym (every (placeFrom (desk .turn) (distanceOf desk)) (omega arith)) ∙ not-true _ (search-ended desk .there h))
+        nowhere (placeFrom (desk .turn) (distanceOf desk)) (omega arith)
+        (decides-free (ticketAt desk (placeFrom (desk .turn) (distanceOf desk))) .so (search-ended desk .there h))
 
-pub open-ranked : (desk : Desk) (ticket : Ticket) (bytes : List ℕ) (room : ℕ) → Ranked (openRows desk ticket bytes room) (openRefusal desk ticket bytes room)
+pub open-ranked : (desk : Desk) (asked : Request) (bytes : List ℕ) (room : ℕ) → Ranked (openRows desk asked bytes room) (openRefusal desk asked bytes room)
 unfolding openRows openRefusal placeRows IsNoRoom
-open-ranked desk ticket bytes room =
-    ranked-append (passedUp Denied (askRows (ticket .job) (ticket .unit) (ticket .sort) bytes (ticket .wait))) (placeRows desk request room)
-    (raised Denied (askRefusal (ticket .job) (ticket .unit) (ticket .sort) bytes (ticket .wait))) (firstOf (placeTests (distanceOf desk) request room))
-    (ranked-up Denied (askRows (ticket .job) (ticket .unit) (ticket .sort) bytes (ticket .wait))
-    (askRefusal (ticket .job) (ticket .unit) (ticket .sort) bytes (ticket .wait))
-    (ask-ranked (ticket .job) (ticket .unit) (ticket .sort) bytes (ticket .wait)))
+open-ranked desk asked bytes room =
+    ranked-append (passedUp Denied (askRows asked bytes)) (placeRows desk request room)
+    (raised Denied (askRefusal asked bytes)) (firstOf (placeTests (distanceOf desk) request room))
+    (ranked-up Denied (askRows asked bytes) (askRefusal asked bytes) (ask-ranked asked bytes))
     (λ n. ranked (placeTests (distanceOf desk) request room) (placeRows desk request room)
     (decides-all-open desk otherwise λ n₁₅.
     decides-lt room (length request) otherwise λ n₁₆. tt))
   where
     request : List ℕ
-    request = requestAt (givenPlace desk) ticket bytes
+    request = requestAt (givenPlace desk) asked bytes
 
 -- ---- 17 to 20
 
@@ -88,9 +87,9 @@ book-ranked desk t =
 pub reply-ranked : (desk : Desk) (frame : List ℕ) (room : ℕ) → Ranked (replyRows desk frame room) (replyRefusal desk frame room)
 unfolding replyRows replyRefusal
 reply-ranked desk frame room =
-    ranked-append (passedUp Unread (readRows frame room)) (bookRows desk (fieldsOf (messageOf frame))) (raised Unread (readRefusal frame room))
-    (bookRefusal desk (fieldsOf (messageOf frame))) (ranked-up Unread (readRows frame room) (readRefusal frame room) (read-ranked frame room))
-    (λ n. book-ranked desk (fieldsOf (messageOf frame)))
+    ranked-append (passedUp Unread (readRows frame room)) (bookRows desk (fieldsIn frame)) (raised Unread (readRefusal frame room))
+    (bookRefusal desk (fieldsIn frame)) (ranked-up Unread (readRows frame room) (readRefusal frame room) (read-ranked frame room))
+    (λ n. book-ranked desk (fieldsIn frame))
 
 -- ---- 21 and 22
 
@@ -98,7 +97,7 @@ pub cancel-ranked : (desk : Desk) (job address : ℕ) → Ranked (cancelRows des
 unfolding cancelRows cancelRefusal IsNotTheirs
 cancel-ranked desk job address =
     ranked (cancelTests (ticketOn desk address) job) (cancelRows desk job address)
-    (decides-not (decides-and (decides-set (ticketOn desk address .live)) (decides-eq (ticketOn desk address .job) job)) otherwise λ n₂₁. tt)
+    (decides-not (decides-and (decides-set (ticketOn desk address .live)) (decides-eq (ticketOn desk address .asked .job) job)) otherwise λ n₂₁. tt)
 
 -- where the search for a due ticket has ended
 pub due-ended : (desk : Desk) (clock : ℕ) → Ended (λ k. isDue clock (ticketAt desk k)) 95 (duePlace desk clock)
@@ -121,38 +120,76 @@ pub expire-ranked : (desk : Desk) (clock : ℕ) → Ranked (expireRows desk cloc
 unfolding expireRows expireRefusal
 expire-ranked desk clock = ranked (expireTests (duePlace desk clock)) (expireRows desk clock) (decides-nothing-due desk clock otherwise λ n₂₂. tt)
 
--- ---- and so of the calls' answers, by their contracts, both ways: `.0` for each number, `.1` for none
+-- ---- and so of the calls' answers, by their contracts and in numbers
 
-pub open-exactly : (desk : Desk) (job unit sort register : ℕ) (bytes : List ℕ) (wait clock : ℕ) (room : List ℕ) (r : AfterOpen) (room′ : List ℕ)
-    → Opens desk job unit sort register bytes wait clock room r room′
-    → ((f : Fault) → (r .answer ≡ opening.Refused f) ↔ First (openRows desk (newTicket job unit sort register wait clock) bytes (length room)) f)
-    × ((r .answer ≡ opening.Opened (161 + givenPlace desk) (length (requestAt (givenPlace desk) (newTicket job unit sort register wait clock) bytes)))
-    ↔ NoRow (openRows desk (newTicket job unit sort register wait clock) bytes (length room)))
-open-exactly desk job unit sort register bytes wait clock room r room′ o =
-    rw (o .0) (told-exactly (λ (x : Option Fault). openAnswer x (161 + givenPlace desk) (length (requestAt (givenPlace desk) ticket bytes))) opening.Refused
-    (λ f. refl) (λ f g e. cc) (λ f e. clash (cc)) (openRows desk ticket bytes (length room)) (openRefusal desk ticket bytes (length room))
-    (open-ranked desk ticket bytes (length room)))
-  where
-    ticket : Ticket
-    ticket = newTicket job unit sort register wait clock
+open-tells : (o : Option Fault) (address n : ℕ) → openTold (openAnswer o address n) ≡ raised faultNumber o
+open-tells none address n = refl
+open-tells (some f) address n = refl
+
+pub open-exactly : (desk : Desk) (asked : Request) (bytes : List ℕ) (clock : ℕ) (room : List ℕ) (r : AfterOpen) (room′ : List ℕ)
+    → Opens desk asked bytes clock room r room′
+    → Numbered (passedUp faultNumber (openRows desk asked bytes (length room))) (10 ∷ 11 ∷ 12 ∷ 13 ∷ 14 ∷ 15 ∷ 16 ∷ []) (openTold (r .answer))
+unfolding openRows placeRows askRows
+open-exactly desk asked bytes clock room r room′ o =
+    numbered faultNumber (openRows desk asked bytes (length room)) (openRefusal desk asked bytes (length room)) (open-ranked desk asked bytes (length room))
+    (10 ∷ 11 ∷ 12 ∷ 13 ∷ 14 ∷ 15 ∷ 16 ∷ []) refl refl (openTold (r .answer)) (ap openTold (o .0) ∙ open-tells (openRefusal desk asked bytes (length room)) _ _)
+
+book-tells : (o : Option Fault) (ticket : Ticket) (t : Fields) → bookTold (bookAnswer o ticket t) ≡ raised faultNumber o
+book-tells none ticket t = refl
+book-tells (some f) ticket t = refl
 
 pub reply-exactly : (desk : Desk) (frame room : List ℕ) (r : AfterReply) (room′ : List ℕ) → Replies desk frame room r room′
-    → ((f : Fault) → (r .answer ≡ booking.Refused f) ↔ First (replyRows desk frame (length room)) f)
-    × ((r .answer ≡ bookAnswer none (ticketOn desk (fieldsOf (messageOf frame) .destination)) (fieldsOf (messageOf frame))) ↔ NoRow (replyRows desk frame (length room)))
+    → Numbered (passedUp faultNumber (replyRows desk frame (length room)))
+    (1 ∷ 2 ∷ 3 ∷ 4 ∷ 5 ∷ 6 ∷ 7 ∷ 8 ∷ 9 ∷ 17 ∷ 18 ∷ 19 ∷ 20 ∷ []) (bookTold (r .answer))
+unfolding replyRows bookRows readRows fitRows
 reply-exactly desk frame room r room′ o =
-    rw (o .0) (told-exactly (λ (x : Option Fault). bookAnswer x (ticketOn desk (fieldsOf (messageOf frame) .destination)) (fieldsOf (messageOf frame))) booking.Refused
-    (λ f. refl) (λ f g e. cc) (λ f e. clash (cc)) (replyRows desk frame (length room)) (replyRefusal desk frame (length room)) (reply-ranked desk frame (length room)))
+    numbered faultNumber (replyRows desk frame (length room)) (replyRefusal desk frame (length room)) (reply-ranked desk frame (length room))
+    (1 ∷ 2 ∷ 3 ∷ 4 ∷ 5 ∷ 6 ∷ 7 ∷ 8 ∷ 9 ∷ 17 ∷ 18 ∷ 19 ∷ 20 ∷ []) refl refl (bookTold (r .answer)) (ap bookTold (o .0) ∙ book-tells (replyRefusal desk frame (length room)) _ _)
+
+close-tells : (o : Option Fault) (ticket : Ticket) (address : ℕ) → closeTold (closeAnswer o ticket address) ≡ raised faultNumber o
+close-tells none ticket address = refl
+close-tells (some f) ticket address = refl
 
 pub cancel-exactly : (desk : Desk) (job address : ℕ) (r : AfterClose) → Cancels desk job address r
-    → ((f : Fault) → (r .answer ≡ closing.Refused f) ↔ First (cancelRows desk job address) f)
-    × ((r .answer ≡ closing.Closed (ticketOn desk address .job) address) ↔ NoRow (cancelRows desk job address))
+    → Numbered (passedUp faultNumber (cancelRows desk job address)) (21 ∷ []) (closeTold (r .answer))
+unfolding cancelRows
 cancel-exactly desk job address r o =
-    rw (o .0) (told-exactly (λ (x : Option Fault). closeAnswer x (ticketOn desk address) address) closing.Refused
-    (λ f. refl) (λ f g e. cc) (λ f e. clash (cc)) (cancelRows desk job address) (cancelRefusal desk job address) (cancel-ranked desk job address))
+    numbered faultNumber (cancelRows desk job address) (cancelRefusal desk job address) (cancel-ranked desk job address)
+    (21 ∷ []) refl refl (closeTold (r .answer)) (ap closeTold (o .0) ∙ close-tells (cancelRefusal desk job address) _ _)
 
 pub expire-exactly : (desk : Desk) (clock : ℕ) (r : AfterClose) → Expires desk clock r
-    → ((f : Fault) → (r .answer ≡ closing.Refused f) ↔ First (expireRows desk clock) f)
-    × ((r .answer ≡ closing.Closed (ticketOn desk (161 + duePlace desk clock) .job) (161 + duePlace desk clock)) ↔ NoRow (expireRows desk clock))
+    → Numbered (passedUp faultNumber (expireRows desk clock)) (22 ∷ []) (closeTold (r .answer))
+unfolding expireRows
 expire-exactly desk clock r o =
-    rw (o .0) (told-exactly (λ (x : Option Fault). closeAnswer x (ticketOn desk (161 + duePlace desk clock)) (161 + duePlace desk clock)) closing.Refused
-    (λ f. refl) (λ f g e. cc) (λ f e. clash (cc)) (expireRows desk clock) (expireRefusal desk clock) (expire-ranked desk clock))
+    numbered faultNumber (expireRows desk clock) (expireRefusal desk clock) (expire-ranked desk clock)
+    (22 ∷ []) refl refl (closeTold (r .answer)) (ap closeTold (o .0) ∙ close-tells (expireRefusal desk clock) _ _)
+
+-- ---- the rows of opening, cancelling and expiring written out, each with its number; those of a reply are in the crate `ticket`
+
+pub open-plainly : (desk : Desk) (asked : Request) (bytes : List ℕ) (clock : ℕ) (room : List ℕ) (r : AfterOpen) (room′ : List ℕ)
+    → Opens desk asked bytes clock room r room′
+    → Numbered
+    (row (asked .job ≡ 0) 10
+    ∷ row ((1 ≤ asked .unit) × (asked .unit ≤ 160) → ⊥) 11
+    ∷ row ((asked .sort ≡ 4) ⊎ ((asked .sort ≡ 5) ⊎ ((asked .sort ≡ 6) ⊎ ((asked .sort ≡ 7) ⊎ (asked .sort ≡ 9)))) → ⊥) 12
+    ∷ row ((240 < length bytes) ⊎ ((asked .sort ≡ 4) × (0 < length bytes))) 13
+    ∷ row ((1 ≤ asked .wait) × (asked .wait ≤ 60000) → ⊥) 14
+    ∷ row ((place : ℕ) → place < 95 → ticketAt desk place .live ≡ false → ⊥) 15
+    ∷ row (length room < length (requestAt (givenPlace desk) asked bytes)) 16
+    ∷ [])
+    (10 ∷ 11 ∷ 12 ∷ 13 ∷ 14 ∷ 15 ∷ 16 ∷ []) (openTold (r .answer))
+unfolding openRows placeRows askRows IsNoJob IsNotAModule IsNotARequest IsWrongData IsWrongWait IsAllOpen IsNoRoom
+open-plainly desk asked bytes clock room r room′ o = open-exactly desk asked bytes clock room r room′ o
+
+pub cancel-plainly : (desk : Desk) (job address : ℕ) (r : AfterClose) → Cancels desk job address r
+    → Numbered (row ((ticketOn desk address .live ≡ true) × (ticketOn desk address .asked .job ≡ job) → ⊥) 21 ∷ []) (21 ∷ []) (closeTold (r .answer))
+unfolding cancelRows IsNotTheirs
+cancel-plainly desk job address r o = cancel-exactly desk job address r o
+
+pub expire-plainly : (desk : Desk) (clock : ℕ) (r : AfterClose) → Expires desk clock r
+    → Numbered
+    (row ((place : ℕ) → place < 95
+    → (ticketAt desk place .live ≡ true) × (ticketAt desk place .asked .wait ≤ age clock (ticketAt desk place .opened)) → ⊥) 22 ∷ [])
+    (22 ∷ []) (closeTold (r .answer))
+unfolding expireRows IsNothingDue
+expire-plainly desk clock r o = expire-exactly desk clock r o

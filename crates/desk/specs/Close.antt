@@ -1,16 +1,17 @@
 -- Cancelling and expiring: rows 21 and 22.
 -- Assumes nothing.
 use mathlib.Core.Path.{_≡_}
-use mathlib.Core.Bool.{not, _&&_}
+use mathlib.Core.Bool.{Bool, not, _&&_}
 use mathlib.Core.List.{List, [], _∷_}
 use mathlib.Core.Option.{Option, some, none}
-use Prim.Native.Nat.{ℕ, _+_, _<_}
+use Prim.Native.Nat.{ℕ, _+_, _-_, _<_}
 use lib.Dec.{eqb, leb}
 use Rattle.rows.specs.Rows.{Row, row, test, firstOf, Test}
 use Rattle.first.specs.First.{firstPlace}
-use Rattle.desk.specs.Ticket.{ticketAt, ticketOn, OpenOn, closedOn}
-use Rattle.waiting.specs.Due.{IsDue, isDue}
-use Rattle.waiting.specs.declared.Ticket.{Ticket}
+use Rattle.desk.specs.Desk.{ticketAt, ticketOn, OpenOn, putAt, faultNumber}
+use Rattle.ticket.specs.Due.{IsDue, isDue}
+use Rattle.ticket.specs.Ticket.{noTicket}
+use Rattle.ticket.specs.declared.Ticket.{Ticket}
 use Rattle.desk.specs.declared.Desk.{Desk}
 use Rattle.desk.specs.declared.Fault.{Fault}
 use Rattle.desk.specs.declared.Fault.the-variants.{NotTheirs, NothingDue}
@@ -22,13 +23,16 @@ use Rattle.desk.specs.declared.AfterClose.{AfterClose}
 
 -- 21: "that job has no ticket on that address"
 unfoldable pub IsNotTheirs : Desk → ℕ → ℕ → Type 0
-IsNotTheirs desk job address = OpenOn desk address × (ticketOn desk address .job ≡ job) → ⊥
+IsNotTheirs desk job address = OpenOn desk address × (ticketOn desk address .asked .job ≡ job) → ⊥
 
 unfoldable pub cancelRows : Desk → ℕ → ℕ → List (Row Fault)
 cancelRows desk job address = row (IsNotTheirs desk job address) NotTheirs ∷ []
 
+abbrev pub isTheirs : Ticket → ℕ → Bool
+isTheirs ticket job = ticket .live && eqb (ticket .asked .job) job
+
 abbrev pub cancelTests : Ticket → ℕ → List (Test Fault)
-cancelTests ticket job = test (not (ticket .live && eqb (ticket .job) job)) NotTheirs ∷ []
+cancelTests ticket job = test (not (isTheirs ticket job)) NotTheirs ∷ []
 
 unfoldable pub cancelRefusal : Desk → ℕ → ℕ → Option Fault
 cancelRefusal desk job address = firstOf (cancelTests (ticketOn desk address) job)
@@ -56,11 +60,20 @@ expireRefusal desk clock = firstOf (expireTests (duePlace desk clock))
 
 abbrev pub closeAnswer : Option Fault → Ticket → ℕ → Closing
 closeAnswer (some f) ticket address = Refused f
-closeAnswer none ticket address = Closed (ticket .job) address
+closeAnswer none ticket address = Closed (ticket .asked .job) address
+
+-- the number that an answer tells
+abbrev pub closeTold : Closing → Option ℕ
+closeTold (Refused f) = some (faultNumber f)
+closeTold (Closed job address) = none
+
+-- the desk without the ticket that was given up: "frees it at once"
+abbrev pub withdrawnOn : Desk → ℕ → Desk
+withdrawnOn desk address = putAt desk (address - 161) noTicket
 
 abbrev pub closeDesk : Option Fault → Desk → ℕ → Desk
 closeDesk (some f) desk address = desk
-closeDesk none desk address = closedOn desk address
+closeDesk none desk address = withdrawnOn desk address
 
 -- ---- the contracts
 

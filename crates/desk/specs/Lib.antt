@@ -1,4 +1,5 @@
-pub mod Ticket
+pub mod Desk
 pub mod Open
 pub mod Reply
 pub mod Close
+pub mod Outcome

@@ -3,16 +3,16 @@
 use mathlib.Core.Path.{_≡_}
 use mathlib.Core.List.{List, _++_}
 use mathlib.Core.Option.{Option, some, none}
-use Prim.Native.Nat.{ℕ}
+use Prim.Native.Nat.{ℕ, _-_}
 use lib.ListN.{length}
 use Rattle.lent.specs.Lent.{over}
 use Rattle.rows.specs.Rows.{Row, orLater, passedUp, raised}
-use Rattle.frame.specs.Frame.{messageOf}
-use Rattle.telegram.specs.Read.{readRefusal, fieldsOf, dataOf, readRows}
+use Rattle.telegram.specs.Read.{readRefusal, readRows, fieldsIn, dataIn}
 use Rattle.telegram.specs.declared.Fields.{Fields}
-use Rattle.desk.specs.Ticket.{ticketOn, closedOn}
-use Rattle.waiting.specs.Fit.{fitRows, fitRefusal}
-use Rattle.waiting.specs.declared.Ticket.{Ticket}
+use Rattle.desk.specs.Desk.{ticketOn, putAt, faultNumber}
+use Rattle.ticket.specs.Fit.{fitRows, fitRefusal}
+use Rattle.ticket.specs.Ticket.{noTicket}
+use Rattle.ticket.specs.declared.Ticket.{Ticket}
 use Rattle.desk.specs.declared.Desk.{Desk}
 use Rattle.desk.specs.declared.Fault.{Fault}
 use Rattle.desk.specs.declared.Fault.the-variants.{Unread, Misfit}
@@ -26,7 +26,7 @@ unfoldable pub bookRows : Desk → Fields → List (Row Fault)
 bookRows desk t = passedUp Misfit (fitRows (ticketOn desk (t .destination)) t)
 
 unfoldable pub replyRows : Desk → List ℕ → ℕ → List (Row Fault)
-replyRows desk frame room = passedUp Unread (readRows frame room) ++ bookRows desk (fieldsOf (messageOf frame))
+replyRows desk frame room = passedUp Unread (readRows frame room) ++ bookRows desk (fieldsIn frame)
 
 -- ---- how they are tested
 
@@ -34,17 +34,26 @@ unfoldable pub bookRefusal : Desk → Fields → Option Fault
 bookRefusal desk t = raised Misfit (fitRefusal (ticketOn desk (t .destination)) t)
 
 unfoldable pub replyRefusal : Desk → List ℕ → ℕ → Option Fault
-replyRefusal desk frame room = orLater (raised Unread (readRefusal frame room)) (bookRefusal desk (fieldsOf (messageOf frame)))
+replyRefusal desk frame room = orLater (raised Unread (readRefusal frame room)) (bookRefusal desk (fieldsIn frame))
 
 -- ---- "A booked reply closes the ticket, answers its job, address, type and data, and frees the address."
 
 abbrev pub bookAnswer : Option Fault → Ticket → Fields → Booking
 bookAnswer (some f) ticket t = Refused f
-bookAnswer none ticket t = Booked (ticket .job) (t .destination) (t .sort) (t .size)
+bookAnswer none ticket t = Booked (ticket .asked .job) (t .destination) (t .sort) (t .size)
+
+-- the number that an answer tells
+abbrev pub bookTold : Booking → Option ℕ
+bookTold (Refused f) = some (faultNumber f)
+bookTold (Booked job address sort n) = none
+
+-- the desk without the ticket that was answered: its address is free
+abbrev pub answeredOn : Desk → ℕ → Desk
+answeredOn desk address = putAt desk (address - 161) noTicket
 
 abbrev pub bookDesk : Option Fault → Desk → Fields → Desk
 bookDesk (some f) desk t = desk
-bookDesk none desk t = closedOn desk (t .destination)
+bookDesk none desk t = answeredOn desk (t .destination)
 
 abbrev pub bookRoom : Option Fault → List ℕ → List ℕ → List ℕ
 bookRoom (some f) bytes room = room
@@ -53,6 +62,6 @@ bookRoom none bytes room = over bytes room
 -- the contract of `reply`
 abbrev pub Replies : Desk → List ℕ → List ℕ → AfterReply → List ℕ → Type 0
 Replies desk frame room r room′ =
-    (r .answer ≡ bookAnswer (replyRefusal desk frame (length room)) (ticketOn desk (fieldsOf (messageOf frame) .destination)) (fieldsOf (messageOf frame)))
-    × (r .desk ≡ bookDesk (replyRefusal desk frame (length room)) desk (fieldsOf (messageOf frame)))
-    × (room′ ≡ bookRoom (replyRefusal desk frame (length room)) (dataOf (messageOf frame)) room)
+    (r .answer ≡ bookAnswer (replyRefusal desk frame (length room)) (ticketOn desk (fieldsIn frame .destination)) (fieldsIn frame))
+    × (r .desk ≡ bookDesk (replyRefusal desk frame (length room)) desk (fieldsIn frame))
+    × (room′ ≡ bookRoom (replyRefusal desk frame (length room)) (dataIn frame) room)

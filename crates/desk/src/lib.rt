@@ -1,10 +1,12 @@
 // The ticket desk: each request goes out under a host address of its own, and each reply is booked
 // on the one ticket that is open on its address, or refused. specs/ says what each call answers.
-pub use waiting::Ticket;
-ghost use Rattle.desk.specs.Ticket.{Fresh, Looks, Numbers, ticketOn, closedOn};
+pub use request::Request;
+use ticket::NO_TICKET;
+pub use ticket::Ticket;
+ghost use Rattle.desk.specs.Desk.{Fresh, Looks, Numbers, ticketOn, putAt};
 ghost use Rattle.desk.specs.Open.{Opens, PlacesAt, distanceOf, withTicket};
-ghost use Rattle.desk.specs.Reply.{Replies};
-ghost use Rattle.desk.specs.Close.{Cancels, Expires, Withdraws, duePlace};
+ghost use Rattle.desk.specs.Reply.{Replies, answeredOn};
+ghost use Rattle.desk.specs.Close.{Cancels, Expires, Withdraws, duePlace, isTheirs};
 ghost use mathlib.Core.Path.{_≡_};
 ghost use mathlib.Core.Logic.{_≢_};
 ghost use Prim.Native.Nat.{_≤_, _<_};
@@ -26,7 +28,7 @@ pub enum Fault {
     // the reply could not be read as a telegram
     Unread(telegram::Fault),
     // the reply does not fit what is open on its destination
-    Misfit(waiting::Fault),
+    Misfit(ticket::Fault),
     NotTheirs,
     NothingDue,
 }
@@ -70,16 +72,6 @@ pub struct AfterClose {
     pub answer: Closing,
 }
 
-const NO_TICKET: Ticket = Ticket {
-    live: false,
-    job: 0,
-    unit: 0,
-    sort: 0,
-    register: 0,
-    wait: 0,
-    opened: 0,
-};
-
 // A desk with no tickets and its turn at 161.
 pub fn fresh() -> Desk
     ensures { λ r. ⌜ Fresh r ⌝ }
@@ -99,7 +91,7 @@ pub fn number(fault: Fault) -> u8
         Fault::AllOpen => 15,
         Fault::NoRoom => 16,
         Fault::Unread(unread) => telegram::number(unread),
-        Fault::Misfit(misfit) => waiting::number(misfit),
+        Fault::Misfit(misfit) => ticket::number(misfit),
         Fault::NotTheirs => 21,
         Fault::NothingDue => 22,
     }
@@ -118,46 +110,29 @@ pub fn look(desk: Desk, address: u8) -> Seen
 
 // Opens a ticket and writes its request telegram into the room's first bytes. A refusal leaves the
 // desk, its turn and every byte of the room.
-pub fn open(
-    desk: Desk,
-    job: u32,
-    unit: u8,
-    sort: u8,
-    register: u8,
-    data: &[u8],
-    wait: u32,
-    clock: u32,
-    room: &mut [u8],
-) -> AfterOpen
-    ensures { λ r. ⌜ Opens desk job unit sort register (now («data» .entry)) wait clock (now (room .entry)) r (now (room .exit)) ⌝ }
+pub fn open(desk: Desk, asked: Request, data: &[u8], clock: u32, room: &mut [u8]) -> AfterOpen
+    ensures { λ r. ⌜ Opens desk asked (now («data» .entry)) clock (now (room .entry)) r (now (room .exit)) ⌝ }
 {
-    match request::judge(job, unit, sort, data, wait) {
+    match request::judge(asked, data) {
         request::Asking::Denied(fault) => AfterOpen {
             desk,
             answer: Opening::Refused(Fault::Denied(fault)),
         },
-        request::Asking::Allowed => open_at(
-            desk,
-            free_distance(desk),
-            Ticket {
-                live: true,
-                job,
-                unit,
-                sort,
-                register,
-                wait,
-                opened: clock,
-            },
-            data,
-            room,
-        ),
+        request::Asking::Allowed => open_at(desk, free_distance(desk), asked, data, clock, room),
     }
 }
 
 // Rows 15 and 16, and the opening itself, at a distance from the turn.
-fn open_at(desk: Desk, distance: u8, ticket: Ticket, data: &[u8], room: &mut [u8]) -> AfterOpen
-    requires { ⌜ (length (now «data») ≤ 240) × (ticket .unit ≢ 0) × (ticket .sort ≤ 9) ⌝ }
-    ensures { λ r. ⌜ PlacesAt desk distance ticket (now («data» .entry)) (now (room .entry)) r (now (room .exit)) ⌝ }
+fn open_at(
+    desk: Desk,
+    distance: u8,
+    asked: Request,
+    data: &[u8],
+    clock: u32,
+    room: &mut [u8],
+) -> AfterOpen
+    requires { ⌜ (length (now «data») ≤ 240) × (asked .unit ≢ 0) × (asked .sort ≤ 9) ⌝ }
+    ensures { λ r. ⌜ PlacesAt desk distance asked (now («data» .entry)) clock (now (room .entry)) r (now (room .exit)) ⌝ }
 {
     if 95 <= distance {
         return AfterOpen {
@@ -167,20 +142,21 @@ fn open_at(desk: Desk, distance: u8, ticket: Ticket, data: &[u8], room: &mut [u8
     }
     let place = ((desk.turn as u16 + distance as u16) % 95) as u8;
     let address = 161 + place;
-    match telegram::write(
-        ticket.unit,
-        address,
-        ticket.sort,
-        ticket.register,
-        data,
-        room,
-    ) {
+    match telegram::write(asked.unit, address, asked.sort, asked.register, data, room) {
         telegram::Writing::Refused(_) => AfterOpen {
             desk,
             answer: Opening::Refused(Fault::NoRoom),
         },
         telegram::Writing::Written(n) => AfterOpen {
-            desk: with_ticket(desk, place, ticket),
+            desk: with_ticket(
+                desk,
+                place,
+                Ticket {
+                    live: true,
+                    asked,
+                    opened: clock,
+                },
+            ),
             answer: Opening::Opened(address, n),
         },
     }
@@ -199,35 +175,46 @@ pub fn reply(desk: Desk, frame: &[u8], room: &mut [u8]) -> AfterReply
         };
     };
     let ticket = ticket_on(desk, t.destination);
-    match waiting::judge(ticket, t) {
-        waiting::Judged::Misfit(fault) => AfterReply {
+    match ticket::judge(ticket, t) {
+        ticket::Judged::Misfit(fault) => AfterReply {
             desk,
             answer: Booking::Refused(Fault::Misfit(fault)),
         },
-        waiting::Judged::Fits => {
+        ticket::Judged::Fits => {
             telegram::read(frame, room);
             AfterReply {
-                desk: closed_on(desk, t.destination),
-                answer: Booking::Booked(ticket.job, t.destination, t.sort, t.size),
+                desk: answered_on(desk, t.destination),
+                answer: Booking::Booked(ticket.asked.job, t.destination, t.sort, t.size),
             }
         }
     }
+}
+
+// The desk without the ticket that was answered.
+fn answered_on(desk: Desk, address: u8) -> Desk
+    requires { ⌜ 161 ≤ address ⌝ }
+    ensures { λ r. ⌜ r ≡ answeredOn desk address ⌝ }
+{
+    put_at(desk, address - 161, NO_TICKET)
 }
 
 // Closes the ticket that is open on the address for that job.
 pub fn cancel(desk: Desk, job: u32, address: u8) -> AfterClose
     ensures { λ r. ⌜ Cancels desk job address r ⌝ }
 {
-    let ticket = ticket_on(desk, address);
-    if ticket.live {
-        if ticket.job == job {
-            return withdraw(desk, address);
-        }
+    if is_theirs(ticket_on(desk, address), job) {
+        return withdraw(desk, address);
     }
     AfterClose {
         desk,
         answer: Closing::Refused(Fault::NotTheirs),
     }
+}
+
+fn is_theirs(ticket: Ticket, job: u32) -> bool
+    ensures { λ r. ⌜ r ≡ isTheirs ticket job ⌝ }
+{
+    ticket.live && ticket.asked.job == job
 }
 
 // Closes the due ticket with the lowest address.
@@ -251,8 +238,8 @@ fn withdraw(desk: Desk, address: u8) -> AfterClose
 {
     let ticket = ticket_on(desk, address);
     AfterClose {
-        desk: closed_on(desk, address),
-        answer: Closing::Closed(ticket.job, address),
+        desk: put_at(desk, address - 161, NO_TICKET),
+        answer: Closing::Closed(ticket.asked.job, address),
     }
 }
 
@@ -269,7 +256,7 @@ fn ticket_on(desk: Desk, address: u8) -> Ticket
     NO_TICKET
 }
 
-// How far from the turn the first place without a ticket is; 95 where there is none.
+// How far from the turn the first free place is; 95 where there is none.
 fn free_distance(desk: Desk) -> u8
     ensures { λ r. ⌜ r ≡ distanceOf desk ⌝ }
 {
@@ -277,8 +264,7 @@ fn free_distance(desk: Desk) -> u8
     let mut k: u8 = 0;
     while k < 95 {
         let place = (turn + k as usize) % 95;
-        let ticket = desk.tickets[place];
-        if ticket.live {} else {
+        if ticket::is_free(desk.tickets[place]) {
             return k;
         }
         k += 1;
@@ -293,7 +279,7 @@ fn due_place(desk: Desk, clock: u32) -> u8
     let mut k: u8 = 0;
     while k < 95 {
         let place = k as usize;
-        if waiting::is_due(desk.tickets[place], clock) {
+        if ticket::is_due(desk.tickets[place], clock) {
             return k;
         }
         k += 1;
@@ -307,22 +293,22 @@ fn with_ticket(desk: Desk, place: u8, ticket: Ticket) -> Desk
     ensures { λ r. ⌜ r ≡ withTicket desk place ticket ⌝ }
 {
     let mut tickets = desk.tickets;
-    let at = place as usize;
-    tickets[at] = ticket;
+    let given = place as usize;
+    tickets[given] = ticket;
     Desk {
         turn: (place + 1) % 95,
         tickets,
     }
 }
 
-// No ticket stands on the host address any more. The turn stays.
-fn closed_on(desk: Desk, address: u8) -> Desk
-    requires { ⌜ 161 ≤ address ⌝ }
-    ensures { λ r. ⌜ r ≡ closedOn desk address ⌝ }
+// Something else stands at the place. The turn stays.
+fn put_at(desk: Desk, place: u8, ticket: Ticket) -> Desk
+    requires { ⌜ place < 95 ⌝ }
+    ensures { λ r. ⌜ r ≡ putAt desk place ticket ⌝ }
 {
     let mut tickets = desk.tickets;
-    let place = (address - 161) as usize;
-    tickets[place] = NO_TICKET;
+    let at = place as usize;
+    tickets[at] = ticket;
     Desk {
         turn: desk.turn,
         tickets,

@@ -6,16 +6,17 @@ use mathlib.Core.List.{List, [], _∷_, _++_}
 use mathlib.Core.Logic.{_≢_, inl, inr, ⊎-elim}
 use Prim.Native.Nat.{ℕ, zero, suc, _+_, _≤_, _<_}
 use native.Mathlib.Omega.{arith}
-use borrow.Author.Tests.{eqb-true, not-true, ne-eqb}
+use borrow.Author.Tests.{eqb-true, ne-eqb}
 use lib.Dec.{eqb}
 use Rattle.rows.proofs.Laws.{decides-eq, decides-not, decides-and, decides-set}
 use Rattle.desk.specs.Open.{givenPlace}
-use Rattle.desk.specs.Ticket.{freshDesk, ticketAt}
+use Rattle.desk.specs.Desk.{freshDesk, ticketAt}
+use Rattle.ticket.proofs.Laws.{decides-free}
+use Rattle.ticket.specs.Ticket.{isFree}
 use Rattle.desk.specs.declared.Desk.{Desk}
 use Rattle.nights.proofs.Fair.{gives-opening, free-before-again}
 use Rattle.nights.specs.Night.{Call, after, eventOf, afterAll}
 use Rattle.nights.specs.Round.{Gives, GivenIn, oneOpening, openingsIn, countOf, othersFree}
-use Rattle.nights.specs.Night.{asks, brings, cancels, expires}
 
 -- ---- counting
 
@@ -57,11 +58,8 @@ one-fewer fits one (suc n) = go (fits n) (eqb n one) refl (one-fewer fits one n)
 -- ---- openings
 
 gives-counts : (desk : Desk) (call : Call) (place : ℕ) → Gives desk call place → oneOpening (eventOf desk call) ≡ 1
-unfolding Gives eventOf
-gives-counts desk (asks job unit sort register bytes wait clock room) place g = rw (g .0)
-gives-counts desk (brings frame room) place g = absurd g
-gives-counts desk (cancels job address) place g = absurd g
-gives-counts desk (expires clock) place g = absurd g
+unfolding Gives
+gives-counts desk call place g = rw (g .1)
 
 -- each opening gives one place, so as many places as are given need as many openings
 given-count : (calls : List Call) (desk : Desk) (fits : ℕ → Bool) → ((q : ℕ) → q < 95 → fits q ≡ true → GivenIn desk calls q)
@@ -99,7 +97,7 @@ unfolding GivenIn afterAll
 given-earlier [] desk last q other = ⊎-elim (λ g. absurd (other g)) (λ never. never)
 given-earlier (call ∷ calls) desk last q other = ⊎-elim (λ g. inl g) (λ later. inr (given-earlier calls (after desk call) last q other later))
 
--- "So at least as many openings lie between as there were other addresses without a ticket after the first."
+-- so at least as many openings lie between as there were other free addresses after the first
 pub openings-between : (desk : Desk) (first : Call) (p : ℕ) → Gives desk first p → (calls : List Call) (second : Call)
     → Gives (afterAll (after desk first) calls) second p → othersFree (after desk first) p ≤ openingsIn (after desk first) calls
 unfolding othersFree
@@ -109,11 +107,11 @@ openings-between desk first p g calls second again = given-count calls (after de
     another q other h =
         other (gives-opening (afterAll (after desk first) calls) second q h .1 ∙ sym (gives-opening (afterAll (after desk first) calls) second p again .1))
 
-    free : (q : ℕ) → q < 95 → (not (ticketAt (after desk first) q .live) && not (eqb q p)) ≡ true → GivenIn (after desk first) calls q
+    free : (q : ℕ) → q < 95 → (isFree (ticketAt (after desk first) q) && not (eqb q p)) ≡ true → GivenIn (after desk first) calls q
     free q h fit =
-        let both = decides-and (decides-set (not (ticketAt (after desk first) q .live))) (decides-not (decides-eq q p)) .so fit in
+        let both = decides-and (decides-free (ticketAt (after desk first) q)) (decides-not (decides-eq q p)) .so fit in
         given-earlier calls (after desk first) second q (another q (both .1))
-        (free-before-again desk first p g calls second again q h (both .1) (not-true _ (both .0)))
+        (free-before-again desk first p g calls second again q h (both .1) (both .0))
 
 -- on a desk without tickets there are 94 others
 pub fresh-others : othersFree freshDesk 0 ≡ 94

@@ -1,31 +1,29 @@
--- The turn's round: which places an opening gives, and which it passes over because they hold a ticket.
+-- The turn's round: which places an opening gives, and which it passes over because they are not free.
 -- Assumes nothing.
 use mathlib.Core.Path.{_≡_}
-use mathlib.Core.Bool.{Bool, true, cond, not, _&&_}
+use mathlib.Core.Bool.{Bool, cond, not, _&&_}
 use mathlib.Core.List.{List, [], _∷_}
 use mathlib.Core.Logic.{_⊎_}
-use mathlib.Core.Option.{none}
 use Prim.Native.Nat.{ℕ, zero, suc, _+_, _<_}
 use lib.Dec.{eqb}
-use lib.ListN.{length}
-use Rattle.desk.specs.Open.{placeFrom, distanceOf, givenPlace, openRefusal, newTicket}
-use Rattle.desk.specs.Ticket.{ticketAt}
+use Rattle.desk.specs.Desk.{ticketAt}
+use Rattle.desk.specs.Open.{placeFrom, distanceOf, givenPlace}
 use Rattle.desk.specs.declared.Desk.{Desk}
+use Rattle.ticket.specs.Ticket.{Free, isFree}
+use Rattle.ticket.specs.declared.Ticket.{Ticket}
 use Rattle.nights.specs.Night.{Call, Event, after, eventOf}
-use Rattle.nights.specs.Night.{asks, brings, cancels, expires, gave, closed, nothing}
+use Rattle.nights.specs.Night.{opened, booked, withdrawn, nothing}
 
--- the call is an opening that is not refused, and gives the place
+-- the caller saw that the address of the place was given
 unfoldable pub Gives : Desk → Call → ℕ → Type 0
-Gives desk (asks job unit sort register bytes wait clock room) place =
-    (openRefusal desk (newTicket job unit sort register wait clock) bytes (length room) ≡ none) × (place ≡ givenPlace desk)
-Gives desk (brings frame room) place = ⊥
-Gives desk (cancels job address) place = ⊥
-Gives desk (expires clock) place = ⊥
+Gives desk call place = (ticket : Ticket) × (eventOf desk call ≡ opened (161 + place) ticket)
 
--- the call is one that gives another place, and passes this one over because it holds a ticket
+-- the call gives another place, and passes this one over because it is not free
 unfoldable pub PassesOver : Desk → Call → ℕ → Type 0
 PassesOver desk call place =
-    Gives desk call (givenPlace desk) × ((k : ℕ) × (k < distanceOf desk) × (place ≡ placeFrom (desk .turn) k)) × (ticketAt desk place .live ≡ true)
+    Gives desk call (givenPlace desk)
+    × ((k : ℕ) × (k < distanceOf desk) × (place ≡ placeFrom (desk .turn) k))
+    × (Free (ticketAt desk place) → ⊥)
 
 -- one of the calls gives the place or passes it over
 unfoldable pub Met : Desk → List Call → ℕ → Type 0
@@ -37,12 +35,13 @@ unfoldable pub GivenIn : Desk → List Call → ℕ → Type 0
 GivenIn desk [] place = ⊥
 GivenIn desk (c ∷ cs) place = Gives desk c place ⊎ GivenIn (after desk c) cs place
 
--- ---- "at least as many openings lie between as there were other addresses without a ticket after the first"
+-- ---- how many openings lie between two that give one address
 
 -- an answer that gives an address counts as one opening
 abbrev pub oneOpening : Event → ℕ
-oneOpening (gave job address) = 1
-oneOpening (closed job address) = 0
+oneOpening (opened address ticket) = 1
+oneOpening (booked job address source sort register) = 0
+oneOpening (withdrawn job address) = 0
 oneOpening nothing = 0
 
 -- how many of the calls are openings, by their answers
@@ -55,6 +54,6 @@ unfoldable pub countOf : (ℕ → Bool) → ℕ → ℕ
 countOf fits zero = 0
 countOf fits (suc n) = cond (fits n) 1 0 + countOf fits n
 
--- how many addresses other than the one at the place hold no ticket
+-- how many addresses other than the one at the place are free
 unfoldable pub othersFree : Desk → ℕ → ℕ
-othersFree desk place = countOf (λ other. not (ticketAt desk other .live) && not (eqb other place)) 95
+othersFree desk place = countOf (λ other. isFree (ticketAt desk other) && not (eqb other place)) 95

@@ -1,6 +1,22 @@
 // A request before it is sent: rows 10 to 14, which need no desk. specs/ says what each call answers.
+use telegram::CLEAR_BITS;
+use telegram::MOST_DATA;
+use telegram::READ;
+use telegram::SET_BITS;
+use telegram::TOGGLE_BITS;
+use telegram::WRITE;
 ghost use Rattle.request.specs.Request.{Asks, Numbers, oneTo, isRequest, isWrongData};
 ghost use mathlib.Core.Path.{_≡_};
+
+// What a job asks of a module, but for the data: `unit` is the module, `sort` the type of the
+// telegram, `wait` how long its reply is waited for, in milliseconds.
+pub struct Request {
+    pub job: u32,
+    pub unit: u8,
+    pub sort: u8,
+    pub register: u8,
+    pub wait: u32,
+}
 
 // Why a request may not be sent.
 pub enum Fault {
@@ -30,63 +46,45 @@ pub fn number(fault: Fault) -> u8
 }
 
 // Rows 10 to 14: what can be said of a request before any address is looked for.
-pub fn judge(job: u32, unit: u8, sort: u8, data: &[u8], wait: u32) -> Asking
-    ensures { λ r. ⌜ Asks job unit sort (now («data» .entry)) wait r ⌝ }
+pub fn judge(asked: Request, data: &[u8]) -> Asking
+    ensures { λ r. ⌜ Asks asked (now («data» .entry)) r ⌝ }
 {
-    if job == 0 {
+    if asked.job == 0 {
         return Asking::Denied(Fault::NoJob);
     }
-    if one_to(160, unit as u32) {} else {
+    if !one_to(160, asked.unit as u32) {
         return Asking::Denied(Fault::NotAModule);
     }
-    if is_request(sort) {} else {
+    if !is_request(asked.sort) {
         return Asking::Denied(Fault::NotARequest);
     }
-    if wrong_data(sort, data.len()) {
+    if wrong_data(asked.sort, data.len()) {
         return Asking::Denied(Fault::WrongData);
     }
-    if one_to(60000, wait) {
-        return Asking::Allowed;
+    if !one_to(60000, asked.wait) {
+        return Asking::Denied(Fault::WrongWait);
     }
-    Asking::Denied(Fault::WrongWait)
+    Asking::Allowed
 }
 
 // Whether x is 1 to `most`.
 fn one_to(most: u32, x: u32) -> bool
     ensures { λ r. ⌜ r ≡ oneTo most x ⌝ }
 {
-    if 1 <= x {
-        return x <= most;
-    }
-    false
+    1 <= x && x <= most
 }
 
 fn is_request(sort: u8) -> bool
     ensures { λ r. ⌜ r ≡ isRequest sort ⌝ }
 {
-    if sort == 4 {
-        return true;
+    match sort {
+        READ | WRITE | SET_BITS | CLEAR_BITS | TOGGLE_BITS => true,
+        _ => false,
     }
-    if sort == 5 {
-        return true;
-    }
-    if sort == 6 {
-        return true;
-    }
-    if sort == 7 {
-        return true;
-    }
-    sort == 9
 }
 
 fn wrong_data(sort: u8, size: usize) -> bool
     ensures { λ r. ⌜ r ≡ isWrongData sort size ⌝ }
 {
-    if 240 < size {
-        return true;
-    }
-    if sort == 4 {
-        return 0 < size;
-    }
-    false
+    MOST_DATA < size || sort == READ && 0 < size
 }

@@ -7,8 +7,8 @@ use borrow.Author.Count.{below-more}
 use Rattle.first.proofs.Laws.{first-at}
 use Rattle.desk.proofs.due_place.Statement.{statement}
 use Rattle.desk.specs.Close.{duePlace}
-use Rattle.waiting.specs.Due.{isDue}
-use Rattle.desk.specs.Ticket.{ticketAt}
+use Rattle.ticket.specs.Due.{isDue}
+use Rattle.desk.specs.Desk.{ticketAt}
 use Rattle.desk.proofs.Calls.{end-none}
 use Rattle.desk.proofs.due_place.Tie as tie
 
@@ -35,7 +35,11 @@ is-due-requires c κs = search needs
 
 returns : tie.Need-returns Inv-loop μ-loop
 unfolding duePlace
-returns c = sym (first-at (λ i. isDue (c .before .before .before .before .before .args .clock) (ticketAt (c .before .before .before .before .before .args .t1) i)) 95 _ (c .before .before .before .loop-test .taken) (c .before .before .before .before .loop .inv .1) (sym (c .before .is-due .ensures) ∙ c .if1 .taken))
+returns c =
+    let loop = c .before .before .before .before in
+    let args = loop .before .args in
+    sym (first-at (λ i. isDue (args .clock) (ticketAt (args .t1) i)) 95 _ (c .before .before .before .loop-test .taken) (loop .loop .inv .1)
+    (sym (c .before .is-due .ensures) ∙ c .if1 .taken))
 
 add-k : tie.Need-add-k Inv-loop μ-loop
 add-k c = search needs

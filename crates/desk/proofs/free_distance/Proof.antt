@@ -1,17 +1,18 @@
-use mathlib.Core.Path.{_≡_, refl}
-use mathlib.Core.Bool.{false, not}
+use mathlib.Core.Path.{_≡_, refl, sym, _∙_}
+use mathlib.Core.Bool.{true, false}
 use Prim.Native.Nat.{ℕ, _-_, _≤_, _<_}
 use native.Mathlib.Omega.{arith}
 use borrow.Author.Needs.{needs}
 use borrow.Author.Count.{below-more}
+use Rattle.ticket.specs.Ticket.{isFree}
 use Rattle.desk.proofs.free_distance.Statement.{statement}
 use Rattle.desk.specs.Open.{placeFrom, distanceOf}
-use Rattle.desk.specs.Ticket.{ticketAt}
+use Rattle.desk.specs.Desk.{ticketAt}
 use Rattle.desk.proofs.Calls.{end-none, free-found}
 use Rattle.desk.proofs.free_distance.Tie as tie
 
 abbrev Inv-loop : tie.InvT-loop
-Inv-loop desk turn k₀ k = (k ≤ 95) × ((i : ℕ) → i < k → not (ticketAt desk (placeFrom (desk .turn) i) .live) ≡ false) × (turn ≡ desk .turn)
+Inv-loop desk turn k₀ k = (k ≤ 95) × ((i : ℕ) → i < k → isFree (ticketAt desk (placeFrom (desk .turn) i)) ≡ false) × (turn ≡ desk .turn)
 
 abbrev μ-loop : tie.MeasureT-loop
 μ-loop desk turn k₀ k = 95 - k
@@ -28,15 +29,19 @@ cast-place c = search needs
 add-place : tie.Need-add-place Inv-loop μ-loop
 add-place c = search needs
 
-mul-ticket : tie.Need-mul-ticket Inv-loop μ-loop
-mul-ticket c = search needs
+mul-is-free : tie.Need-mul-is-free Inv-loop μ-loop
+mul-is-free c = search needs
 
-element-copy-out-ticket : tie.Need-element-copy-out-ticket Inv-loop μ-loop
-element-copy-out-ticket c = search needs
+element-copy-out-is-free : tie.Need-element-copy-out-is-free Inv-loop μ-loop
+element-copy-out-is-free c = search needs
+
+is-free-requires : tie.Need-is-free-requires Inv-loop μ-loop
+is-free-requires c κs = search needs
 
 returns : tie.Need-returns Inv-loop μ-loop
-unfolding distanceOf
-returns c = free-found (c .before .before .before .before .args .t1) _ (c .before .before .loop-test .taken) (c .before .before .before .loop .inv .1) (c .if1 .left)
+returns c =
+    let loop = c .before .before .before .before in
+    free-found (loop .before .args .t1) _ (c .before .before .before .loop-test .taken) (loop .loop .inv .1) (sym (c .before .is-free .ensures) ∙ c .if1 .taken)
 
 add-k : tie.Need-add-k Inv-loop μ-loop
 add-k c = search needs
@@ -45,11 +50,13 @@ loop-less : tie.Need-loop-less Inv-loop μ-loop
 loop-less c = search needs
 
 loop-again : tie.Need-loop-again Inv-loop μ-loop
-loop-again c = (omega arith, below-more _ _ (c .before .before .before .loop .inv .1) (rw (c .if1 .taken)), c .before .before .before .loop .inv .2)
+loop-again c = (omega arith, below-more _ _ (c .before .before .before .before .loop .inv .1) (sym (c .before .is-free .ensures) ∙ c .if1 .left), c .before .before .before .before .loop .inv .2)
 
 returns-2 : tie.Need-returns-2 Inv-loop μ-loop
 unfolding distanceOf
-returns-2 c = end-none (λ i. not (ticketAt (c .before .before .args .t1) (placeFrom (c .before .before .args .t1 .turn) i) .live)) _ (c .before .loop .inv .0) (c .loop-test .left) (c .before .loop .inv .1)
+returns-2 c =
+    let desk = c .before .before .args .t1 in
+    end-none (λ i. isFree (ticketAt desk (placeFrom (desk .turn) i))) _ (c .before .loop .inv .0) (c .loop-test .left) (c .before .loop .inv .1)
 
 pub free-distance-spec : {M : Type 1} → statement M
 free-distance-spec =
@@ -61,8 +68,9 @@ free-distance-spec =
     loop-holds
     cast-place
     add-place
-    mul-ticket
-    element-copy-out-ticket
+    mul-is-free
+    element-copy-out-is-free
+    is-free-requires
     returns
     add-k
     loop-less

@@ -36,13 +36,23 @@ same-length : tie.Need-same-length
 same-length c = search needs
 
 returns-2 : tie.Need-returns-2
-returns-2 c = no-room-at (c .before .before .before .before .before .before .before .before .before .before .args .desk) (c .before .before .before .before .before .before .before .before .before .before .args .distance) (c .before .before .before .before .before .before .before .before .before .before .args .ticket) (c .before .before .before .before .before .before .before .before .before .before .args .«data» .now) (c .before .before .before .before .before .before .before .before .before .before .args .room .now) _ _ (c .before .before .before .before .before .before .before .if1 .left) (c .before .before .before .before .before .before .before .before .before .before .pre) (c .before .before .before .before .write .ensures) _ (c .enum-told .given .1)
+returns-2 c =
+    let wrote = c .before .before .before .before in
+    let tested = wrote .before .before .before in
+    let s = tested .before .before .before in
+    no-room-at (s .args .desk) (s .args .distance) (s .args .asked) (s .args .«data» .now) (s .args .clock) (s .args .room .now) _ _
+    (tested .if1 .left) (s .pre) (wrote .write .ensures) _ (c .enum-told .given .1)
 
 same-length-2 : tie.Need-same-length-2
 same-length-2 c = search needs
 
 returns-3 : tie.Need-returns-3
-returns-3 c = opened-at (c .before .before .before .before .before .before .before .before .before .before .before .before .args .desk) (c .before .before .before .before .before .before .before .before .before .before .before .before .args .distance) (c .before .before .before .before .before .before .before .before .before .before .before .before .args .ticket) (c .before .before .before .before .before .before .before .before .before .before .before .before .args .«data» .now) (c .before .before .before .before .before .before .before .before .before .before .before .before .args .room .now) _ _ (c .before .before .before .before .before .before .before .before .before .if1 .left) (c .before .before .before .before .before .before .before .before .before .before .before .before .pre) (c .before .before .before .before .before .before .write .ensures) _ _ (c .before .before .n .given .1) (c .with-ticket .ensures)
+returns-3 c =
+    let wrote = c .before .before .before .before .before .before in
+    let tested = wrote .before .before .before in
+    let s = tested .before .before .before in
+    opened-at (s .args .desk) (s .args .distance) (s .args .asked) (s .args .«data» .now) (s .args .clock) (s .args .room .now) _ _
+    (tested .if1 .left) (s .pre) (wrote .write .ensures) _ _ (c .before .before .n .given .1) (c .with-ticket .ensures)
 
 pub open-at-spec : {M : Type 1} → statement M
 open-at-spec =

@@ -1,4 +1,3 @@
-use mathlib.Core.Path.{sym, _∙_}
 use borrow.Author.Needs.{needs}
 use borrow.Author.Tests.{eq-eqb, ne-eqb}
 use Rattle.request.proofs.judge.Statement.{statement}
@@ -9,43 +8,85 @@ returns : tie.Need-returns
 unfolding askRefusal
 returns c = rw (eq-eqb _ _ (c .if1 .taken))
 
+cast-one-to : tie.Need-cast-one-to
+cast-one-to c = search needs
+
 one-to-requires : tie.Need-one-to-requires
 one-to-requires c κs = search needs
 
 returns-2 : tie.Need-returns-2
 unfolding askRefusal
-returns-2 c = rw (ne-eqb _ _ (c .before .before .if1 .left), sym (c .before .one-to .ensures) ∙ c .if2 .left)
+returns-2 c = rw (ne-eqb _ _ (c .before .before .before .if1 .left), ← c .before .one-to .ensures, c .if2 .taken)
 
 is-request-requires : tie.Need-is-request-requires
 is-request-requires c κs = search needs
 
 returns-3 : tie.Need-returns-3
 unfolding askRefusal
-returns-3 c = rw (ne-eqb _ _ (c .before .before .before .before .if1 .left), sym (c .before .before .before .one-to .ensures) ∙ c .before .before .if2 .taken, sym (c .before .is-request .ensures) ∙ c .if3 .left)
+returns-3 c =
+    rw (
+      ne-eqb _ _ (c .before .before .before .before .before .if1 .left),
+      ← c .before .before .before .one-to .ensures,
+      c .before .before .if2 .left,
+      ← c .before .is-request .ensures,
+      c .if3 .taken,
+    )
 
 wrong-data-requires : tie.Need-wrong-data-requires
 wrong-data-requires c κs = search needs
 
 returns-4 : tie.Need-returns-4
 unfolding askRefusal
-returns-4 c = rw (ne-eqb _ _ (c .before .before .before .before .before .before .if1 .left), sym (c .before .before .before .before .before .one-to .ensures) ∙ c .before .before .before .before .if2 .taken, sym (c .before .before .before .is-request .ensures) ∙ c .before .before .if3 .taken, sym (c .before .wrong-data .ensures) ∙ c .if4 .taken)
+returns-4 c =
+    rw (
+      ne-eqb _ _ (c .before .before .before .before .before .before .before .if1 .left),
+      ← c .before .before .before .before .before .one-to .ensures,
+      c .before .before .before .before .if2 .left,
+      ← c .before .before .before .is-request .ensures,
+      c .before .before .if3 .left,
+      ← c .before .wrong-data .ensures,
+      c .if4 .taken,
+    )
 
 one-to-requires-2 : tie.Need-one-to-requires-2
 one-to-requires-2 c κs = search needs
 
 returns-5 : tie.Need-returns-5
 unfolding askRefusal
-returns-5 c = rw (ne-eqb _ _ (c .before .before .before .before .before .before .before .before .if1 .left), sym (c .before .before .before .before .before .before .before .one-to .ensures) ∙ c .before .before .before .before .before .before .if2 .taken, sym (c .before .before .before .before .before .is-request .ensures) ∙ c .before .before .before .before .if3 .taken, sym (c .before .before .before .wrong-data .ensures) ∙ c .before .before .if4 .left, sym (c .before .one-to2 .ensures) ∙ c .if5 .taken)
+returns-5 c =
+    rw (
+      ne-eqb _ _ (c .before .before .before .before .before .before .before .before .before .if1 .left),
+      ← c .before .before .before .before .before .before .before .one-to .ensures,
+      c .before .before .before .before .before .before .if2 .left,
+      ← c .before .before .before .before .before .is-request .ensures,
+      c .before .before .before .before .if3 .left,
+      ← c .before .before .before .wrong-data .ensures,
+      c .before .before .if4 .left,
+      ← c .before .one-to2 .ensures,
+      c .if5 .taken,
+    )
 
 returns-6 : tie.Need-returns-6
 unfolding askRefusal
-returns-6 c = rw (ne-eqb _ _ (c .before .before .before .before .before .before .before .before .if1 .left), sym (c .before .before .before .before .before .before .before .one-to .ensures) ∙ c .before .before .before .before .before .before .if2 .taken, sym (c .before .before .before .before .before .is-request .ensures) ∙ c .before .before .before .before .if3 .taken, sym (c .before .before .before .wrong-data .ensures) ∙ c .before .before .if4 .left, sym (c .before .one-to2 .ensures) ∙ c .if5 .left)
+returns-6 c =
+    rw (
+      ne-eqb _ _ (c .before .before .before .before .before .before .before .before .before .if1 .left),
+      ← c .before .before .before .before .before .before .before .one-to .ensures,
+      c .before .before .before .before .before .before .if2 .left,
+      ← c .before .before .before .before .before .is-request .ensures,
+      c .before .before .before .before .if3 .left,
+      ← c .before .before .before .wrong-data .ensures,
+      c .before .before .if4 .left,
+      ← c .before .one-to2 .ensures,
+      c .if5 .left,
+    )
 
 pub judge-spec : {M : Type 1} → statement M
 judge-spec =
     tie.close
     (tie.spec
     returns
+    cast-one-to
     one-to-requires
     returns-2
     is-request-requires

@@ -2,18 +2,19 @@
 -- Assumes nothing.
 use mathlib.Core.Path.{_≡_}
 use mathlib.Core.Logic.{_≢_, _⊎_}
-use mathlib.Core.Bool.{Bool, true, cond, not, _||_, _&&_}
+use mathlib.Core.Bool.{Bool, true, false, cond, not, _||_, _&&_}
 use mathlib.Core.List.{List, [], _∷_}
 use mathlib.Core.Option.{Option, some, none}
-use Prim.Native.Nat.{ℕ, _≤_}
+use Prim.Native.Nat.{ℕ, zero, suc, _≤_}
 use lib.Dec.{eqb, leb}
 use Rattle.rows.specs.Rows.{Row, row, Test, test, firstOf}
 use Rattle.telegram.specs.declared.Fields.{Fields}
-use Rattle.waiting.specs.declared.Ticket.{Ticket}
-use Rattle.waiting.specs.declared.Fault.{Fault}
-use Rattle.waiting.specs.declared.Fault.the-variants.{NoTicket, OtherModule, OtherKind, OtherRegister}
-use Rattle.waiting.specs.declared.Judged.{Judged}
-use Rattle.waiting.specs.declared.Judged.the-variants.{Fits, Misfit}
+use Rattle.ticket.specs.Ticket.{Open}
+use Rattle.ticket.specs.declared.Ticket.{Ticket}
+use Rattle.ticket.specs.declared.Fault.{Fault}
+use Rattle.ticket.specs.declared.Fault.the-variants.{NoTicket, OtherModule, OtherKind, OtherRegister}
+use Rattle.ticket.specs.declared.Judged.{Judged}
+use Rattle.ticket.specs.declared.Judged.the-variants.{Fits, Misfit}
 
 -- "A read is answered by type 8, 0, 1 or 2, a write of any sort by 3, 0, 1 or 2."
 unfoldable pub KindFits : ℕ → ℕ → Type 0
@@ -28,19 +29,19 @@ RegisterFits asked answered register = (register ≡ asked) ⊎ ((answered ≤ 3
 
 -- 17: "no ticket open on its destination"
 unfoldable pub IsNoTicket : Ticket → Type 0
-IsNoTicket ticket = ticket .live ≡ true → ⊥
+IsNoTicket ticket = Open ticket → ⊥
 
 -- 18: "source is not the ticket's module"
 unfoldable pub IsOtherModule : Ticket → Fields → Type 0
-IsOtherModule ticket t = t .source ≢ ticket .unit
+IsOtherModule ticket t = t .source ≢ ticket .asked .unit
 
 -- 19: "kind does not fit"
 unfoldable pub IsOtherKind : Ticket → Fields → Type 0
-IsOtherKind ticket t = KindFits (ticket .sort) (t .sort) → ⊥
+IsOtherKind ticket t = KindFits (ticket .asked .sort) (t .sort) → ⊥
 
 -- 20: "register does not fit"
 unfoldable pub IsOtherRegister : Ticket → Fields → Type 0
-IsOtherRegister ticket t = RegisterFits (ticket .register) (t .sort) (t .register) → ⊥
+IsOtherRegister ticket t = RegisterFits (ticket .asked .register) (t .sort) (t .register) → ⊥
 
 unfoldable pub fitRows : Ticket → Fields → List (Row Fault)
 fitRows ticket t =
@@ -52,8 +53,12 @@ fitRows ticket t =
 
 -- ---- how they are tested
 
+-- what a request is answered by where nothing is amiss
+abbrev pub wantedFor : ℕ → ℕ
+wantedFor asked = cond (eqb asked 4) 8 3
+
 abbrev pub kindFits : ℕ → ℕ → Bool
-kindFits asked answered = leb answered 2 || cond (eqb asked 4) (eqb answered 8) (eqb answered 3)
+kindFits asked answered = leb answered 2 || eqb answered (wantedFor asked)
 
 abbrev pub registerFits : ℕ → ℕ → ℕ → Bool
 registerFits asked answered register = eqb register asked || (leb answered 3 && eqb register 0)
@@ -61,20 +66,24 @@ registerFits asked answered register = eqb register asked || (leb answered 3 && 
 abbrev pub fitTests : Ticket → Fields → List (Test Fault)
 fitTests ticket t =
     test (not (ticket .live)) NoTicket
-    ∷ test (not (eqb (t .source) (ticket .unit))) OtherModule
-    ∷ test (not (kindFits (ticket .sort) (t .sort))) OtherKind
-    ∷ test (not (registerFits (ticket .register) (t .sort) (t .register))) OtherRegister
+    ∷ test (not (eqb (t .source) (ticket .asked .unit))) OtherModule
+    ∷ test (not (kindFits (ticket .asked .sort) (t .sort))) OtherKind
+    ∷ test (not (registerFits (ticket .asked .register) (t .sort) (t .register))) OtherRegister
     ∷ []
 
 unfoldable pub fitRefusal : Ticket → Fields → Option Fault
 fitRefusal ticket t = firstOf (fitTests ticket t)
 
--- the paper's number of each refusal
+-- the paper's number of each refusal, and the number that an answer tells
 abbrev pub faultNumber : Fault → ℕ
 faultNumber NoTicket = 17
 faultNumber OtherModule = 18
 faultNumber OtherKind = 19
 faultNumber OtherRegister = 20
+
+abbrev pub fitTold : Judged → Option ℕ
+fitTold (Misfit f) = some (faultNumber f)
+fitTold Fits = none
 
 -- ---- the contracts
 
@@ -87,3 +96,18 @@ Judges ticket t r = r ≡ fitAnswer (fitRefusal ticket t)
 
 abbrev pub Numbers : Fault → ℕ → Type 0
 Numbers fault r = r ≡ faultNumber fault
+
+-- ---- for the laws that say it type by type
+
+abbrev pub keep : Bool → ℕ → List ℕ → List ℕ
+keep true sort rest = sort ∷ rest
+keep false sort rest = rest
+
+-- of the n types from one on, those that pass a test
+abbrev pub typesFrom : (ℕ → Bool) → ℕ → ℕ → List ℕ
+typesFrom fits sort zero = []
+typesFrom fits sort (suc n) = keep (fits sort) sort (typesFrom fits (suc sort) n)
+
+-- of the types 0 to 9
+abbrev pub typesThat : (ℕ → Bool) → List ℕ
+typesThat fits = typesFrom fits 0 10

@@ -1,0 +1,187 @@
+-- What is promised of a ticket that waits, each law under the sentence that it keeps.
+-- Assumes nothing.
+use mathlib.Core.Path.{_≡_, refl, sym, ap, _∙_}
+use mathlib.Core.Bool.{Bool, true, false, cond, not, true≢false}
+use mathlib.Core.List.{[], _∷_}
+use mathlib.Core.Logic.{_≢_, _⊎_, inl, inr, ⊎-elim}
+use mathlib.Core.Option.{Option, some, none}
+use Prim.Native.Nat.{ℕ, zero, suc, _+_, _-_, _%_, _^_, _≤_, _<_}
+use native.Mathlib.Omega.{arith}
+use borrow.Author.Tests.{eqb-true, not-true, not-false, ne-eqb}
+use lib.Dec.{eqb}
+use Rattle.rows.proofs.Settled.{settled}
+use Rattle.rows.specs.Settled.{Settled}
+use Rattle.rows.proofs.Laws.{Decides, decides-le, decides-eq, decides-not, decides-or, decides-and, decides-set, decides-as, ranked, _otherwise_, first-false, numbered}
+use Rattle.rows.specs.Rows.{Ranked, Numbered, row, passedUp, raised}
+use Rattle.telegram.specs.declared.Fields.{Fields}
+use Rattle.ticket.specs.Due.{age, IsDue, isDue, TellsDue}
+use Rattle.ticket.specs.Fit.{KindFits, RegisterFits, IsNoTicket, IsOtherModule, IsOtherKind, IsOtherRegister, fitRows, kindFits, registerFits}
+use Rattle.ticket.specs.Fit.{fitTests, fitRefusal, fitAnswer, fitTold, faultNumber, Judges, Numbers, typesThat}
+use Rattle.ticket.specs.Ticket.{Open, Free, isFree, TellsFree}
+use Rattle.ticket.specs.declared.Ticket.{Ticket}
+use Rattle.ticket.specs.declared.Fault.{Fault}
+use Rattle.ticket.specs.declared.Fault.the-variants.{NoTicket, OtherModule, OtherKind, OtherRegister}
+use Rattle.ticket.specs.declared.Judged.{Judged}
+use Rattle.ticket.specs.declared.Judged.the-variants.{Fits, Misfit}
+
+-- an address is free exactly where no ticket is open
+pub decides-free : (ticket : Ticket) → Decides (isFree ticket) (Free ticket)
+decides-free ticket = record { so = not-true (ticket .live); not-so = λ e free. true≢false (sym (not-false (ticket .live) e) ∙ free) }
+
+-- ---- rows 17 to 20: "Each is given exactly when its condition holds and no earlier one does."
+
+to-two : (n : ℕ) → n ≤ 2 → (n ≡ 0) ⊎ ((n ≡ 1) ⊎ (n ≡ 2))
+to-two zero h = inl refl
+to-two (suc zero) h = inr (inl refl)
+to-two (suc (suc zero)) h = inr (inr refl)
+to-two (suc (suc (suc n))) h = absurd (omega arith)
+
+-- the answer of a read, or of a write
+decides-choice : (asked answered : ℕ) → Decides (eqb answered (cond (eqb asked 4) 8 3)) (((asked ≡ 4) × (answered ≡ 8)) ⊎ ((asked ≢ 4) × (answered ≡ 3)))
+decides-choice asked answered = go (eqb asked 4) (decides-eq asked 4)
+  where
+    go : (b : Bool) → Decides b (asked ≡ 4) → Decides (eqb answered (cond b 8 3)) (((asked ≡ 4) × (answered ≡ 8)) ⊎ ((asked ≢ 4) × (answered ≡ 3)))
+    go true d =
+        decides-as (decides-eq answered 8) (λ e. inl (d .so refl, e)) (⊎-elim (λ p. p .1) (λ p. absurd (p .0 (d .so refl))))
+    go false d =
+        decides-as (decides-eq answered 3) (λ e. inr (d .not-so refl, e)) (⊎-elim (λ p. absurd (d .not-so refl (p .0))) (λ p. p .1))
+
+pub decides-kind : (asked answered : ℕ) → Decides (kindFits asked answered) (KindFits asked answered)
+unfolding KindFits
+decides-kind asked answered =
+    decides-as (decides-or (decides-le answered 2) (decides-choice asked answered))
+    (⊎-elim (λ a. inr (inr (to-two answered a))) (⊎-elim (λ a. inl a) (λ a. inr (inl a))))
+    (⊎-elim (λ a. inr (inl a)) (⊎-elim (λ a. inr (inr a)) (λ a. inl (⊎-elim (λ e. omega arith) (⊎-elim (λ e. omega arith) (λ e. omega arith)) a))))
+
+pub decides-register : (asked answered register : ℕ) → Decides (registerFits asked answered register) (RegisterFits asked answered register)
+unfolding RegisterFits
+decides-register asked answered register = decides-or (decides-eq register asked) (decides-and (decides-le answered 3) (decides-eq register 0))
+
+pub fit-ranked : (ticket : Ticket) (t : Fields) → Ranked (fitRows ticket t) (fitRefusal ticket t)
+unfolding fitRows fitRefusal IsNoTicket IsOtherModule IsOtherKind IsOtherRegister
+fit-ranked ticket t =
+    ranked (fitTests ticket t) (fitRows ticket t)
+    (decides-not (decides-set (ticket .live)) otherwise λ n₁₇.
+    decides-not (decides-eq (t .source) (ticket .asked .unit)) otherwise λ n₁₈.
+    decides-not (decides-kind (ticket .asked .sort) (t .sort)) otherwise λ n₁₉.
+    decides-not (decides-register (ticket .asked .register) (t .sort) (t .register)) otherwise λ n₂₀. tt)
+
+tells : (o : Option Fault) → fitTold (fitAnswer o) ≡ raised faultNumber o
+tells none = refl
+tells (some f) = refl
+
+-- and so of the answer, by numbers
+pub fit-exactly : (ticket : Ticket) (t : Fields) (r : Judged) → Judges ticket t r
+    → Numbered (passedUp faultNumber (fitRows ticket t)) (17 ∷ 18 ∷ 19 ∷ 20 ∷ []) (fitTold r)
+unfolding fitRows
+fit-exactly ticket t r p =
+    numbered faultNumber (fitRows ticket t) (fitRefusal ticket t) (fit-ranked ticket t) (17 ∷ 18 ∷ 19 ∷ 20 ∷ []) refl refl
+    (fitTold r) (ap fitTold p ∙ tells (fitRefusal ticket t))
+
+-- the rows written out, each with its number
+pub fit-plainly : (ticket : Ticket) (t : Fields) (r : Judged) → Judges ticket t r
+    → Numbered
+    (row (ticket .live ≡ true → ⊥) 17
+    ∷ row (t .source ≢ ticket .asked .unit) 18
+    ∷ row (((ticket .asked .sort ≡ 4) × (t .sort ≡ 8))
+    ⊎ (((ticket .asked .sort ≢ 4) × (t .sort ≡ 3)) ⊎ ((t .sort ≡ 0) ⊎ ((t .sort ≡ 1) ⊎ (t .sort ≡ 2)))) → ⊥) 19
+    ∷ row ((t .register ≡ ticket .asked .register) ⊎ ((t .sort ≤ 3) × (t .register ≡ 0)) → ⊥) 20
+    ∷ [])
+    (17 ∷ 18 ∷ 19 ∷ 20 ∷ []) (fitTold r)
+unfolding fitRows IsNoTicket IsOtherModule IsOtherKind IsOtherRegister KindFits RegisterFits
+fit-plainly ticket t r p = fit-exactly ticket t r p
+
+-- 01: "A read is answered by type 8, 0, 1 or 2, a write of any sort by 3, 0, 1 or 2."
+pub read-answered-by : typesThat (kindFits 4) ≡ 0 ∷ 1 ∷ 2 ∷ 8 ∷ []
+read-answered-by = refl
+
+pub write-answered-by : (asked : ℕ) → asked ≢ 4 → typesThat (kindFits asked) ≡ 0 ∷ 1 ∷ 2 ∷ 3 ∷ []
+write-answered-by asked other = rw (ne-eqb asked 4 other)
+
+-- 01: "A datagram's register must equal the ticket's. Types 0 to 3 may also carry register 0": of a ticket on register 48
+pub zero-carried-by : typesThat (λ sort. registerFits 48 sort 0) ≡ 0 ∷ 1 ∷ 2 ∷ 3 ∷ []
+zero-carried-by = refl
+
+pub own-carried-by : typesThat (λ sort. registerFits 48 sort 48) ≡ 0 ∷ 1 ∷ 2 ∷ 3 ∷ 4 ∷ 5 ∷ 6 ∷ 7 ∷ 8 ∷ 9 ∷ []
+own-carried-by = refl
+
+pub other-carried-by : typesThat (λ sort. registerFits 48 sort 49) ≡ []
+other-carried-by = refl
+
+-- what no row refuses fits
+pub fitting : (ticket : Ticket) (t : Fields) → fitRefusal ticket t ≡ none
+    → (Open ticket) × (t .source ≡ ticket .asked .unit) × KindFits (ticket .asked .sort) (t .sort) × RegisterFits (ticket .asked .register) (t .sort) (t .register)
+unfolding fitRefusal
+fitting ticket t e =
+    let on = first-false (not (ticket .live)) NoTicket _ e in
+    let unit = first-false (not (eqb (t .source) (ticket .asked .unit))) OtherModule _ (on .1) in
+    let kind = first-false (not (kindFits (ticket .asked .sort) (t .sort))) OtherKind _ (unit .1) in
+    let register = first-false (not (registerFits (ticket .asked .register) (t .sort) (t .register))) OtherRegister _ (kind .1) in (
+      not-false _ (on .0),
+      eqb-true _ _ (not-false _ (unit .0)),
+      decides-kind (ticket .asked .sort) (t .sort) .so (not-false _ (kind .0)),
+      decides-register (ticket .asked .register) (t .sort) (t .register) .so (not-false _ (register .0)),
+    )
+
+-- what an answer tells of the refusal that it was made from
+pub judged-misfit : (o : Option Fault) (f : Fault) → Misfit f ≡ fitAnswer o → o ≡ some f
+judged-misfit none f e = cc
+judged-misfit (some g) f e = cc
+
+pub judged-fits : (o : Option Fault) → Fits ≡ fitAnswer o → o ≡ none
+judged-fits none e = refl
+judged-fits (some g) e = cc
+
+-- ---- 01: "A ticket's age is the clock minus its opening, reduced modulo 4294967296 [..]. A clock set back past a ticket's opening can
+-- therefore make it due."
+
+pub age-after : (clock opened : ℕ) → clock < 2 ^ 32 → opened ≤ clock → age clock opened ≡ clock - opened
+unfolding age
+age-after clock opened hc h = omega arith
+
+pub age-set-back : (clock opened : ℕ) → opened < 2 ^ 32 → clock < opened → age clock opened ≡ 2 ^ 32 - (opened - clock)
+unfolding age
+age-set-back clock opened ho h = omega arith
+
+pub set-back-due : (clock : ℕ) (ticket : Ticket) → Open ticket → ticket .opened < 2 ^ 32 → clock < ticket .opened
+    → ticket .opened - clock + ticket .asked .wait ≤ 2 ^ 32 → IsDue clock ticket
+set-back-due clock ticket live ho h far = (live, omega (arith, age-set-back clock (ticket .opened) ho h))
+
+-- T11: "opened 4294967290, wait 100: not due at 93, due at 94"
+pub clock-wraps : (ticket : Ticket) → Open ticket → ticket .opened ≡ 4294967290 → ticket .asked .wait ≡ 100 → (IsDue 93 ticket → ⊥) × IsDue 94 ticket
+clock-wraps ticket live opened wait =
+    (λ due. omega (arith, due .1, age-set-back 93 (ticket .opened) (omega arith) (omega arith)), set-back-due 94 ticket live (omega arith) (omega arith) (omega arith))
+
+pub decides-due : (clock : ℕ) (ticket : Ticket) → Decides (isDue clock ticket) (IsDue clock ticket)
+decides-due clock ticket = decides-and (decides-set (ticket .live)) (decides-le (ticket .asked .wait) (age clock (ticket .opened)))
+
+-- what wrapping subtraction gives is the age
+pub age-is : (clock opened r : ℕ) → (r + opened) % 2 ^ 32 ≡ clock → r < 2 ^ 32 → opened < 2 ^ 32 → r ≡ age clock opened
+unfolding age
+age-is clock opened r e hr ho = omega arith
+
+-- the call `number` gives the number that the laws above tell
+pub number-is : (f : Fault) (r : ℕ) → Numbers f r → r ≡ faultNumber f
+number-is f r p = p
+
+-- what `is_free` and `is_due` tell, said out
+pub tells-free : (ticket : Ticket) (r : Bool) → TellsFree ticket r → Decides r (ticket .live ≡ false)
+tells-free ticket r p = rw p (decides-free ticket)
+
+pub tells-due : (ticket : Ticket) (clock : ℕ) (r : Bool) → TellsDue ticket clock r
+    → Decides r ((ticket .live ≡ true) × (ticket .asked .wait ≤ age clock (ticket .opened)))
+tells-due ticket clock r p = rw p (decides-due clock ticket)
+
+-- ---- 01: "Show that any two outcomes allowed by it are equal."
+
+pub judges-settled : (ticket : Ticket) (t : Fields) → Settled (Judges ticket t)
+judges-settled ticket t = settled _
+
+pub tells-free-settled : (ticket : Ticket) → Settled (TellsFree ticket)
+tells-free-settled ticket = settled _
+
+pub tells-due-settled : (ticket : Ticket) (clock : ℕ) → Settled (TellsDue ticket clock)
+tells-due-settled ticket clock = settled _
+
+pub numbers-settled : (f : Fault) → Settled (Numbers f)
+numbers-settled f = settled _
