@@ -30,11 +30,14 @@ use Rattle.desk.specs.declared.AfterReply.{AfterReply}
 use Rattle.kamzhor.proofs.Laws.{frame-as-read}
 use Rattle.kamzhor.specs.Host.{frameNumber, frameGiven, GivesFrame}
 use Rattle.kamzhor.specs.declared.FrameAnswer.{FrameAnswer}
-use Rattle.promises.proofs.DemandOne.{read-settled}
+use Rattle.telegram.proofs.Laws.{reads-settled}
 -- ---- "The check is the polynomial remainder of that description": every byte string has one, and it is the one that is worked out
 pub use Rattle.remainder.proofs.Laws.{is-remainder, only-remainder, empty-remainder, whole, sealed-right}
 -- "the remainder of two equally long byte strings combined by exclusive or is the exclusive or of their remainders"
 pub use Rattle.remainder.proofs.Laws.{remainder-linear}
+-- "alter one or more bits, all within 16 neighbouring bits": the same as a first and a last bit that differ, less than 16 places apart; the
+-- last bit alone is one, and so are 16 neighbours, but not 17
+pub use Rattle.remainder.proofs.Nearby.{nearby-plainly, last-bit-nearby, sixteen-nearby, seventeen-not}
 -- an alteration within 16 neighbouring bits, and any other whose own remainder is not 0, is seen
 pub use Rattle.remainder.proofs.Laws.{burst-seen, nearby-burst, nearby-seen, altered-seen}
 -- so for the reader, for any bench and for any desk, of any alteration whose own remainder is not 0
@@ -55,7 +58,7 @@ module _ (frame : List ℕ) (offered : ℕ) (t : Fields) (accepted : readFrame f
   pub host-refuses : (room : List ℕ) (a : FrameAnswer) (room′ : List ℕ) → 240 ≤ length room → GivesFrame (framed m) room a room′
       → (a ≡ frameNumber 7) × (room′ ≡ room)
   host-refuses room a room′ wide gives =
-      let outcome = read-settled (framed m) room in
+      let outcome = reads-settled (framed m) room in
       let seven = reader-refuses room (outcome .outcome .0) (outcome .outcome .1) wide (outcome .is-allowed) in
       let told = frame-as-read (framed m) room (outcome .is-allowed) gives in
       (told .0 ∙ ap frameGiven (seven .0), told .1 ∙ seven .1)

@@ -10,17 +10,15 @@ use native.Mathlib.Omega.{arith}
 use borrow.Author.Tests.{eqb-true, eqb-false}
 use lib.Dec.{eqb}
 use lib.ListN.{length, take, replicate, length-replicate}
-use lib.Seq.{getD-set-same}
-use Rattle.frame.specs.Frame.{messageOf}
 use Rattle.lent.proofs.Laws.{take-over}
 use Rattle.lent.specs.Lent.{over}
 use Rattle.rows.proofs.Laws.{told-true, done-exactly, refused-exactly}
 use Rattle.rows.specs.Rows.{raised}
 use Rattle.telegram.proofs.Judge.{reading-telegram}
-use Rattle.telegram.proofs.Laws.{fieldsFor, data-of-written}
+use Rattle.telegram.proofs.Laws.{data-of-written}
 use Rattle.telegram.proofs.Sound.{messageOf-framed}
-use Rattle.telegram.specs.Read.{readRefusal, fieldsOf, dataOf, roomAfter, readFrame}
-use Rattle.telegram.specs.Write.{messageFor, telegramFor}
+use Rattle.telegram.specs.Read.{readRefusal, roomAfter, readFrame, fieldsIn, dataIn}
+use Rattle.telegram.specs.Write.{messageFor, telegramFor, fieldsFor}
 use Rattle.telegram.specs.declared.Fields.{Fields}
 use Rattle.telegram.specs.declared.Reading.the-variants.{Telegram}
 use Rattle.values.specs.Values.{sizeOf, bytesOf}
@@ -29,22 +27,25 @@ use Rattle.deeds.specs.Deeds.{HasRight, hasRight, nack, ack, datagram, readDeed
 use Rattle.deeds.specs.declared.Deed.{Deed}
 use Rattle.deeds.specs.declared.Register.{Register}
 use Rattle.bench.proofs.Laws.{decides-held}
-use Rattle.bench.proofs.Rules.{named, Answerable, no-refusal, reply-reads}
-use Rattle.bench.specs.Register.{Held, isHeld}
-use Rattle.bench.specs.Take.{deedOf, replyOf, IsNotARequest, Takes}
+use Rattle.bench.proofs.Rules.{no-refusal, reply-reads}
+use Rattle.bench.specs.Register.{Held, named, isHeld}
+use Rattle.bench.specs.Take.{deedOf, replyOf, IsNotARequest, Takes, Answerable}
 use Rattle.bench.specs.declared.Bench.{Bench}
 use Rattle.bench.specs.declared.Taking.the-variants.{Answered}
 use Rattle.bench.specs.declared.AfterTake.{AfterTake}
 use Rattle.request.proofs.Laws.{ask-ranked, allowed-writable}
 use Rattle.request.specs.Request.{IsWrongData, askRows, askRefusal}
-use Rattle.waiting.proofs.Laws.{fit-ranked}
-use Rattle.waiting.specs.Fit.{KindFits, RegisterFits, IsNoTicket, IsOtherModule, IsOtherKind, IsOtherRegister, fitRows, fitRefusal}
-use Rattle.waiting.specs.declared.Fault.the-variants.{OtherModule}
-use Rattle.waiting.specs.declared.Ticket.{Ticket}
-use Rattle.desk.proofs.Laws.{opened-fit, fit-to-open, on-host, ClosedAlone, closes-alone, request-reads-back}
-use Rattle.desk.specs.Open.{givenPlace, requestAt, openRefusal, newTicket, withTicket, Opens}
-use Rattle.desk.specs.Reply.{bookRefusal, replyRefusal, Replies}
-use Rattle.desk.specs.Ticket.{noTicket, ticketOn, OpenOn, closedOn}
+use Rattle.ticket.proofs.Laws.{fit-ranked}
+use Rattle.ticket.specs.Fit.{KindFits, RegisterFits, IsNoTicket, IsOtherModule, IsOtherKind, IsOtherRegister, fitRows, fitRefusal}
+use Rattle.ticket.specs.declared.Fault.the-variants.{OtherModule}
+use Rattle.ticket.specs.declared.Ticket.{Ticket}
+use Rattle.desk.proofs.Laws.{opened-fit, opened-given, fit-to-open, answers-alone, request-reads-back}
+use Rattle.desk.specs.Outcome.{ClosedAlone}
+use Rattle.desk.specs.Open.{givenPlace, requestAt, openRefusal, Opens}
+use Rattle.ticket.specs.Ticket.{newTicket}
+use Rattle.request.specs.declared.Request.{Request}
+use Rattle.desk.specs.Reply.{bookRefusal, replyRefusal, answeredOn, Replies}
+use Rattle.desk.specs.Desk.{ticketOn, OpenOn}
 use Rattle.desk.specs.declared.Desk.{Desk}
 use Rattle.desk.specs.declared.Fault.the-variants.{Misfit}
 use Rattle.desk.specs.declared.Opening.the-variants.{Opened}
@@ -99,40 +100,37 @@ answer-fits bench t bytes =
 -- ---- the request, as the bench reads it
 
 -- of a desk as any calls leave it, and an opening there that was not refused
-module _ (desk : Desk) (sound : SoundDesk desk) (job unit sort register : ℕ) (bytes : List ℕ) (wait clock : ℕ) (room : List ℕ) (o : AfterOpen) (room′ : List ℕ)
-    (opens : Opens desk job unit sort register bytes wait clock room o room′) (address n : ℕ) (opened : o .answer ≡ Opened address n) where
+module _ (desk : Desk) (sound : SoundDesk desk) (asked : Request) (bytes : List ℕ) (clock : ℕ) (room : List ℕ) (o : AfterOpen) (room′ : List ℕ)
+    (opens : Opens desk asked bytes clock room o room′) (address n : ℕ) (opened : o .answer ≡ Opened address n) where
   -- the request on the line
   abbrev request : List ℕ
   request = take n room′
 
   abbrev fields : Fields
-  fields = fieldsFor unit address sort register bytes
+  fields = fieldsFor (asked .unit) address (asked .sort) (asked .register) bytes
 
   abbrev ticket : Ticket
-  ticket = newTicket job unit sort register wait clock
+  ticket = newTicket asked clock
 
-  told : (openRefusal desk ticket bytes (length room) ≡ none) × (address ≡ 161 + givenPlace desk) × (n ≡ length (requestAt (givenPlace desk) ticket bytes))
-  told = opened-fit desk job unit sort register bytes wait clock room o room′ opens address n opened
+  told : (openRefusal desk asked bytes (length room) ≡ none) × (address ≡ 161 + givenPlace desk) × (n ≡ length (requestAt (givenPlace desk) asked bytes))
+  told = opened-fit desk asked bytes clock room o room′ opens address n opened
 
-  allowed : askRefusal job unit sort bytes wait ≡ none
-  allowed = fit-to-open desk ticket bytes (length room) (told .0) .0
+  allowed : askRefusal asked bytes ≡ none
+  allowed = fit-to-open desk asked bytes (length room) (told .0) .0
 
   -- the ticket stands on the address that was given
   pub ticket-stands : ticketOn (o .desk) address ≡ ticket
-  unfolding givenPlace
-  ticket-stands =
-      let there : o .desk ≡ withTicket desk (givenPlace desk) ticket = opens .1 ∙ rw (told .0) in
-      rw (there, told .1) (on-host (withTicket desk (givenPlace desk) ticket) (givenPlace desk)
-      ∙ getD-set-same (desk .tickets) (givenPlace desk) ticket noTicket (omega (arith, sound .places)))
+  ticket-stands = opened-given desk asked bytes clock room o room′ opens address n (sound .places) opened .stands
 
   -- on the line stands the telegram of the request
-  request-is : request ≡ telegramFor unit address sort register bytes
+  request-is : request ≡ telegramFor (asked .unit) address (asked .sort) (asked .register) bytes
   request-is =
-      let there : room′ ≡ over (requestAt (givenPlace desk) ticket bytes) room = opens .2 ∙ rw (told .0) in
-      rw (there, told .2, told .1) (take-over (requestAt (givenPlace desk) ticket bytes) room (fit-to-open desk ticket bytes (length room) (told .0) .2))
+      let there : room′ ≡ over (requestAt (givenPlace desk) asked bytes) room = opens .2 ∙ rw (told .0) in
+      rw (there, told .2, told .1) (take-over (requestAt (givenPlace desk) asked bytes) room (fit-to-open desk asked bytes (length room) (told .0) .2))
 
-  request-data : dataOf (messageOf request) ≡ bytes
-  request-data = rw request-is (rw (messageOf-framed (messageFor unit address sort register bytes)) (data-of-written unit address sort register bytes))
+  request-data : dataIn request ≡ bytes
+  request-data = rw request-is (rw (messageOf-framed (messageFor (asked .unit) address (asked .sort) (asked .register) bytes))
+      (data-of-written (asked .unit) address (asked .sort) (asked .register) bytes))
 
   -- read with the bench's own 240 bytes of room it is what was asked
   space : List ℕ
@@ -143,23 +141,23 @@ module _ (desk : Desk) (sound : SoundDesk desk) (job unit sort register : ℕ) (
   wide = length-replicate {A = ℕ} 240 0
 
   request-read : readFrame request 240 ≡ Telegram fields
-  request-read = rw wide at (request-reads-back desk job unit sort register bytes wait clock room o room′ opens address n opened
-      space (readFrame request (length space)) (roomAfter (readRefusal request (length space)) (dataOf (messageOf request)) space)
-      (rw wide (allowed-writable job unit sort bytes wait allowed .0)) (refl, refl) .0)
+  request-read = rw wide at (request-reads-back desk asked bytes clock room o room′ opens address n opened
+      space (readFrame request (length space)) (roomAfter (readRefusal request (length space)) (dataIn request) space)
+      (rw wide (allowed-writable asked bytes allowed .0)) (refl, refl) .0)
 
   asks-something : IsNotARequest fields → ⊥
   unfolding IsNotARequest
   asks-something answers =
-      let asked : (4 ≤ sort) × (sort ≢ 8) =
+      let asks : (4 ≤ asked .sort) × (asked .sort ≢ 8) =
       five (λ e. (omega arith, λ z. omega arith)) (λ e. (omega arith, λ z. omega arith)) (λ e. (omega arith, λ z. omega arith)) (λ e. (omega arith, λ z. omega arith))
-      (λ e. (omega arith, λ z. omega arith)) (allowed-sound job unit sort register bytes wait clock allowed .has-request) in
-      five (λ e. omega (arith, asked .0)) (λ e. omega (arith, asked .0)) (λ e. omega (arith, asked .0)) (λ e. omega (arith, asked .0)) (asked .1) answers
+      (λ e. (omega arith, λ z. omega arith)) (allowed-sound asked bytes allowed .has-request) in
+      five (λ e. omega (arith, asks .0)) (λ e. omega (arith, asks .0)) (λ e. omega (arith, asks .0)) (λ e. omega (arith, asks .0)) (asks .1) answers
     where
       five : {A B C D E R : Type 0} → (A → R) → (B → R) → (C → R) → (D → R) → (E → R) → A ⊎ (B ⊎ (C ⊎ (D ⊎ E))) → R
       five a b c d e = ⊎-elim a (⊎-elim b (⊎-elim c (⊎-elim d e)))
 
   -- ---- a bench at that module's address, with room for its reply
-  module _ (bench : Bench) (here : bench .address ≡ unit) (buffer : List ℕ) (q : AfterTake) (buffer′ : List ℕ) (takes : Takes bench request buffer q buffer′)
+  module _ (bench : Bench) (here : bench .address ≡ asked .unit) (buffer : List ℕ) (q : AfterTake) (buffer′ : List ℕ) (takes : Takes bench request buffer q buffer′)
       (roomy : length (replyOf bench fields bytes) ≤ length buffer) where
     abbrev deed : Deed
     deed = deedOf bench fields bytes
@@ -173,7 +171,7 @@ module _ (desk : Desk) (sound : SoundDesk desk) (job unit sort register : ℕ) (
           roomy = rw request-data roomy;
         }
 
-    -- it "gives a reply"
+    -- it gives a reply
     pub is-replied : q .answer ≡ Answered (length (replyOf bench fields bytes))
     is-replied =
         let is = reading-telegram request 240 fields request-read .1 in
@@ -184,29 +182,29 @@ module _ (desk : Desk) (sound : SoundDesk desk) (job unit sort register : ℕ) (
     reply = take (length (replyOf bench fields bytes)) buffer′
 
     abbrev answer : Fields
-    answer = record { destination = address; source = bench .address; sort = deed .sort; register = register; size = deed .size }
+    answer = record { destination = address; source = bench .address; sort = deed .sort; register = asked .register; size = deed .size }
 
     -- a read never has data (13), so a read with the right is answered by the value
-    datagram-of : sort ≡ 4 → Held bench register → HasRight (named bench register) 1 → deed ≡ datagram (named bench register)
+    datagram-of : asked .sort ≡ 4 → Held bench (asked .register) → HasRight (named bench (asked .register)) 1 → deed ≡ datagram (named bench (asked .register))
     unfolding deedOf askRows IsWrongData
     datagram-of is there right =
-        let none-of = done-exactly (askRows job unit sort bytes wait) _ (ask-ranked job unit sort bytes wait) .0 allowed in
+        let none-of = done-exactly (askRows asked bytes) _ (ask-ranked asked bytes) .0 allowed in
         let no-data : 0 < length bytes → ⊥ = λ h. none-of .1 .1 .1 .0 (inr (is, h)) in
         let empty : length bytes ≡ 0 = omega (arith, no-data) in
-        rw (told-true (decides-held bench register) there) (read-deed (named bench register) sort bytes (is, right, empty))
+        rw (told-true (decides-held bench (asked .register)) there) (read-deed (named bench (asked .register)) (asked .sort) bytes (is, right, empty))
 
     -- ---- the reply offered to a desk, with 8 bytes of room or more
     module _ (desk₂ : Desk) (room₂ : List ℕ) (enough : 8 ≤ length room₂) (b : AfterReply) (room₂′ : List ℕ) (replies : Replies desk₂ reply room₂ b room₂′) where
       reply-read : (readFrame reply (length room₂) ≡ Telegram answer)
-          × (roomAfter (readRefusal reply (length room₂)) (dataOf (messageOf reply)) room₂ ≡ over (bytesOf (deed .size) (deed .value)) room₂)
+          × (roomAfter (readRefusal reply (length room₂)) (dataIn reply) room₂ ≡ over (bytesOf (deed .size) (deed .value)) room₂)
       reply-read =
           reply-reads bench request fields buffer may takes (length (replyOf bench fields bytes)) is-replied room₂ (readFrame reply (length room₂))
-          (roomAfter (readRefusal reply (length room₂)) (dataOf (messageOf reply)) room₂) enough (refl, refl) deed (rw request-data refl)
+          (roomAfter (readRefusal reply (length room₂)) (dataIn reply) room₂) enough (refl, refl) deed (rw request-data refl)
 
       no-fault : readRefusal reply (length room₂) ≡ none
       no-fault = reading-telegram reply (length room₂) answer (reply-read .0) .0
 
-      is-answer : answer ≡ fieldsOf (messageOf reply)
+      is-answer : answer ≡ fieldsIn reply
       is-answer = reading-telegram reply (length room₂) answer (reply-read .0) .1
 
       judged : replyRefusal desk₂ reply (length room₂) ≡ raised Misfit (fitRefusal (ticketOn desk₂ address) answer)
@@ -220,22 +218,22 @@ module _ (desk : Desk) (sound : SoundDesk desk) (job unit sort register : ℕ) (
           done-exactly (fitRows ticket answer) (fitRefusal ticket answer) (fit-ranked ticket answer) .1
           ((λ shut. shut refl), ((λ other. other here), ((λ unfit. unfit (answer-fits bench fields bytes)), ((λ unfit. unfit (inl refl)), tt))))
 
-      -- "A request opened at the desk, taken by a bench at that module's address with room, gives a reply that the desk books on that very
-      -- ticket": while the ticket stands, whatever else was opened and closed since
+      -- a request opened at the desk, taken by a bench at that module's address with room, gives a reply that the desk books on that very
+      -- ticket, while the ticket stands, whatever else was opened and closed since
       pub booked-there : ticketOn desk₂ address ≡ ticket
-          → (b .answer ≡ Booked job address (deed .sort) (deed .size))
+          → (b .answer ≡ Booked (asked .job) address (deed .sort) (deed .size))
           × ClosedAlone desk₂ address (b .desk)
           × (room₂′ ≡ over (bytesOf (deed .size) (deed .value)) room₂)
       booked-there on =
           let none-of : replyRefusal desk₂ reply (length room₂) ≡ none = judged ∙ rw (on, fits) in
-          let closing : b .desk ≡ closedOn desk₂ address = replies .1 ∙ rw (none-of, ← is-answer) in (
+          let closing : b .desk ≡ answeredOn desk₂ address = replies .1 ∙ rw (none-of, ← is-answer) in (
             replies .0 ∙ rw (none-of, ← is-answer, on),
-            rw closing (closes-alone desk₂ address (rw on refl)),
+            rw closing (answers-alone desk₂ address (rw on refl)),
             replies .2 ∙ rw none-of (rw no-fault at (reply-read .1)),
           )
 
-      -- "offered to a desk whose ticket on that address is another module's, it is 18", and nothing changes
-      pub crossed-refused : OpenOn desk₂ address → ticketOn desk₂ address .unit ≢ unit
+      -- offered to a desk whose ticket on that address is another module's, it is 18, and nothing changes
+      pub crossed-refused : OpenOn desk₂ address → ticketOn desk₂ address .asked .unit ≢ asked .unit
           → (b .answer ≡ Refused (Misfit OtherModule)) × (b .desk ≡ desk₂) × (room₂′ ≡ room₂)
       unfolding fitRows IsNoTicket IsOtherModule
       crossed-refused live other =
@@ -246,16 +244,16 @@ module _ (desk : Desk) (sound : SoundDesk desk) (job unit sort register : ℕ) (
           let eighteen : replyRefusal desk₂ reply (length room₂) ≡ some (Misfit OtherModule) = judged ∙ rw misfit in
           (replies .0 ∙ rw eighteen, replies .1 ∙ rw eighteen, replies .2 ∙ rw eighteen)
 
-      -- "for a read with the right the data are the register's bytes"
-      pub read-booked : ticketOn desk₂ address ≡ ticket → sort ≡ 4 → Held bench register → HasRight (named bench register) 1
-          → (b .answer ≡ Booked job address 8 (sizeOf (named bench register .kind)))
+      -- for a read with the right the data are the register's bytes
+      pub read-booked : ticketOn desk₂ address ≡ ticket → asked .sort ≡ 4 → Held bench (asked .register) → HasRight (named bench (asked .register)) 1
+          → (b .answer ≡ Booked (asked .job) address 8 (sizeOf (named bench (asked .register) .kind)))
           × ClosedAlone desk₂ address (b .desk)
-          × (room₂′ ≡ over (bytesOf (sizeOf (named bench register .kind)) (named bench register .value)) room₂)
+          × (room₂′ ≡ over (bytesOf (sizeOf (named bench (asked .register) .kind)) (named bench (asked .register) .value)) room₂)
       read-booked on is held-there right = rw (datagram-of is held-there right) at (booked-there on)
 
     -- and so at the desk that opened it, at once
     pub end-to-end : (room₂ : List ℕ) → 8 ≤ length room₂ → (b : AfterReply) (room₂′ : List ℕ) → Replies (o .desk) reply room₂ b room₂′
-        → (b .answer ≡ Booked job address (deed .sort) (deed .size))
+        → (b .answer ≡ Booked (asked .job) address (deed .sort) (deed .size))
         × ClosedAlone (o .desk) address (b .desk)
         × (room₂′ ≡ over (bytesOf (deed .size) (deed .value)) room₂)
     end-to-end room₂ enough b room₂′ replies = booked-there (o .desk) room₂ enough b room₂′ replies ticket-stands

@@ -3,3 +3,7 @@ pub mod DemandOne
 pub mod DemandTwo
 pub mod DemandThree
 pub mod EndToEnd
+pub mod Order
+pub mod Capture
+pub mod Slips
+pub mod Numbers

@@ -2,7 +2,7 @@
 -- Assumes nothing.
 use mathlib.Core.Path.{_≡_, refl}
 use mathlib.Core.Bool.{true}
-use Rattle.waiting.specs.Due.{age}
+use Rattle.ticket.specs.Due.{age}
 use Rattle.frame.specs.Frame.{substituted, framed, between, restored, messageOf}
 use Rattle.promises.specs.Table.{holds, allHold, table}
 use Rattle.remainder.specs.Remainder.{timesX, timesXs, withByte, withBytes, remainderOf}
@@ -11,5 +11,7 @@ use Rattle.values.specs.Values.{sizeOf, isSigned, natural, valueAt, isKind, ele
 use Rattle.values.specs.Values as values
 
 pub every-fact : allHold table ≡ true
-unfolding allHold holds remainderOf withBytes withByte timesX timesXs framed substituted between restored messageOf hasStrayEnd hasBadSubstitution messageRefusal readRefusal fieldsOf readFrame sizeOf isSigned natural valueAt isKind elementOf values.readRefusal readValue age
+unfolding allHold holds remainderOf withBytes withByte timesX timesXs framed substituted between restored messageOf hasStrayEnd
+    hasBadSubstitution messageRefusal readRefusal fieldsOf readFrame sizeOf isSigned natural valueAt isKind elementOf
+    values.readRefusal readValue age
 every-fact = refl

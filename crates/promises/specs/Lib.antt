@@ -1,2 +1,4 @@
-pub mod Settled
 pub mod Table
+pub mod Order
+pub mod Slips
+pub mod Numbers

@@ -5,13 +5,13 @@ use mathlib.Core.Bool.{Bool, true, false, _&&_}
 use mathlib.Core.List.{List, [], _∷_}
 use Prim.Native.Nat.{ℕ}
 use lib.Dec.{eqb}
-use Rattle.desk.specs.Open.{newTicket}
+use Rattle.ticket.specs.Ticket.{newTicket}
 use Rattle.frame.specs.Frame.{framed}
 use Rattle.remainder.specs.Remainder.{remainderOf}
 use Rattle.telegram.specs.Read.{readFrame, faultNumber}
 use Rattle.telegram.specs.declared.Reading.{Reading}
 use Rattle.telegram.specs.declared.Reading.the-variants.{Telegram, Refused}
-use Rattle.waiting.specs.Due.{isDue}
+use Rattle.ticket.specs.Due.{isDue}
 use Rattle.values.specs.Values.{readValue, toggleBits}
 use Rattle.values.specs.declared.Reading.{Reading as ValueReading}
 use Rattle.values.specs.declared.Reading.the-variants as given
@@ -66,7 +66,7 @@ holds (leaves bytes is) = eqb (remainderOf bytes) is
 holds (becomes message frame) = sameBytes (framed message) frame
 holds (refused frame number) = refusedWith (readFrame frame 240) number
 holds (reads kind bytes value) = isValue (readValue kind bytes 0) value
-holds (due opened wait clock is) = sameBool (isDue clock (newTicket 1 1 4 0 wait opened)) is
+holds (due opened wait clock is) = sameBool (isDue clock (newTicket (record { job = 1; unit = 1; sort = 4; register = 0; wait = wait }) opened)) is
 holds (toggled value mask is) = eqb (toggleBits value mask) is
 
 unfoldable pub allHold : List Fact → Bool

@@ -1,0 +1,25 @@
+-- Each number where the paper gives it, by one computed statement over the table. The desk's, 10 to 22, have laws of their own.
+-- Assumes nothing.
+use mathlib.Core.Path.{_≡_, refl}
+use mathlib.Core.Bool.{true}
+use Rattle.first.specs.First.{firstPlace, passedFrom}
+use Rattle.frame.specs.Frame.{substituted, framed, between, restored, messageOf}
+use Rattle.remainder.specs.Remainder.{timesX, timesXs, withByte, withBytes, remainderOf}
+use Rattle.telegram.specs.Read.{hasStrayEnd, hasBadSubstitution, messageRefusal, readRefusal, fieldsOf, dataOf, readFrame}
+use Rattle.telegram.specs.Write.{sealed, writeRefusal}
+use Rattle.values.specs.Values.{sizeOf, isSigned, isKind, greatest, fits, natural, bytesOf, valueAt, elementOf, readValue}
+use Rattle.values.specs.Values as values
+use Rattle.catalogue.specs.Catalogue.{table, isFor, lineFor, findRefusal, findEntry}
+use Rattle.catalogue.specs.Catalogue as catalogue
+use Rattle.deeds.specs.Deeds.{readDeed, writeDeed, heldDeed}
+use Rattle.bench.specs.Build.{makeRefusal, addRefusal, setRefusal}
+use Rattle.bench.specs.Register.{placeOf}
+use Rattle.bench.specs.Take.{deedOf, replyFor, replyOf, requestRefusal, takeRefusal}
+use Rattle.promises.specs.Numbers.{allGiven, refusals}
+
+pub every-number : allGiven refusals ≡ true
+unfolding allGiven firstPlace passedFrom substituted framed between restored messageOf timesX timesXs withByte withBytes remainderOf
+    hasStrayEnd hasBadSubstitution messageRefusal readRefusal fieldsOf dataOf readFrame sealed writeRefusal sizeOf isSigned isKind
+    greatest fits natural bytesOf valueAt elementOf readValue values.readRefusal values.writeRefusal table isFor lineFor catalogue.named findRefusal findEntry
+    readDeed writeDeed heldDeed makeRefusal addRefusal setRefusal placeOf deedOf replyFor replyOf requestRefusal takeRefusal
+every-number = refl

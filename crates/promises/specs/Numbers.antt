@@ -1,0 +1,128 @@
+-- "Numbers for what can't be done": the numbers but the desk's, each by inputs that its row alone refuses, and the next that is not
+-- refused, with what the definitions tell there.
+-- Assumes nothing.
+use mathlib.Core.Bool.{Bool, true, _&&_}
+use mathlib.Core.List.{List, [], _∷_}
+use mathlib.Core.Option.{Option}
+use Prim.Native.Nat.{ℕ}
+use lib.Dec.{eqb}
+use lib.ListN.{replicate}
+use Rattle.frame.specs.Frame.{framed}
+use Rattle.telegram.specs.Read.{readFrame, readTold}
+use Rattle.telegram.specs.Write.{telegramFor, writeRefusal, writeAnswer, writeTold}
+use Rattle.telegram.specs.declared.Fields.{Fields}
+use Rattle.values.specs.Values.{readValue}
+use Rattle.values.specs.declared.Value.{Value}
+use Rattle.values.specs.declared.Value.the-variants.{Natural, Negative}
+use Rattle.values.specs.Values as values
+use Rattle.catalogue.specs.Catalogue.{findEntry, findTold}
+use Rattle.bench.specs.Build.{makeRefusal, addRefusal, setRefusal, buildAnswer, buildTold}
+use Rattle.bench.specs.Register.{noRegister}
+use Rattle.bench.specs.Take.{takeRefusal, takeAnswer, takeTold}
+use Rattle.bench.specs.declared.Bench.{Bench}
+use Rattle.promises.specs.Slips.{orZero, bench}
+
+pub record Given : Type 0 where
+  pub told : ℕ
+  pub number : ℕ
+
+-- what a call tells, or 0 for none, and the paper's number
+abbrev pub gives : Option ℕ → ℕ → Given
+gives told number = record { told = orZero told; number = number }
+
+unfoldable pub allGiven : List Given → Bool
+allGiven [] = true
+allGiven (g ∷ rest) = eqb (g .told) (g .number) && allGiven rest
+
+-- ---- the calls
+
+abbrev pub reading : List ℕ → ℕ → Option ℕ
+reading frame room = readTold (readFrame frame room)
+
+abbrev pub writing : ℕ → ℕ → ℕ → List ℕ → ℕ → Option ℕ
+writing destination source sort bytes room = writeTold (writeAnswer (writeRefusal destination source sort 102 bytes room) 0)
+
+abbrev pub valueRead : ℕ → List ℕ → ℕ → Option ℕ
+valueRead kind bytes element = values.readTold (readValue kind bytes element)
+
+abbrev pub valueWritten : ℕ → Value → ℕ → Option ℕ
+valueWritten kind value room = values.writeTold (values.writeAnswer (values.writeRefusal kind value room))
+
+abbrev pub making : ℕ → Option ℕ
+making address = buildTold (buildAnswer (makeRefusal address))
+
+abbrev pub adding : Bench → ℕ → ℕ → ℕ → Option ℕ
+adding to number kind rights = buildTold (buildAnswer (addRefusal to number kind rights))
+
+abbrev pub setting : ℕ → Value → Option ℕ
+setting number value = buildTold (buildAnswer (setRefusal bench number value))
+
+abbrev pub taking : List ℕ → ℕ → Option ℕ
+taking frame room = takeTold (takeAnswer (takeRefusal bench frame room) [])
+
+-- a bench with 32 registers, none of which is 48
+abbrev pub fullBench : Bench
+fullBench = record { address = 15; count = 32; registers = replicate 32 noRegister }
+
+-- ---- the table: the reader and the writer, the values, the catalogue, and the bench at 15 with register 48, a U8
+
+abbrev pub refusals : List Given
+refusals =
+    gives (reading (13 ∷ []) 240) 1
+    ∷ gives (reading (12 ∷ 10 ∷ []) 240) 1
+    ∷ gives (reading (13 ∷ 11 ∷ []) 240) 1
+    ∷ gives (reading (13 ∷ 10 ∷ 10 ∷ []) 240) 2
+    ∷ gives (reading (13 ∷ 13 ∷ 10 ∷ []) 240) 2
+    ∷ gives (reading (13 ∷ 94 ∷ 10 ∷ []) 240) 3
+    ∷ gives (reading (framed (1 ∷ 2 ∷ 3 ∷ 4 ∷ 5 ∷ [])) 240) 4
+    ∷ gives (reading (framed (replicate 247 1)) 241) 5
+    ∷ gives (reading (telegramFor 15 162 5 48 (3 ∷ [])) 0) 6
+    ∷ gives (reading (framed (0x0F ∷ 0xA2 ∷ 0x04 ∷ 0x66 ∷ 0xC7 ∷ 0xB7 ∷ [])) 0) 7
+    ∷ gives (reading (telegramFor 0 162 4 102 []) 0) 8
+    ∷ gives (reading (telegramFor 15 0 4 102 []) 0) 8
+    ∷ gives (reading (telegramFor 15 162 10 102 []) 0) 9
+    ∷ gives (reading (telegramFor 15 162 9 102 []) 0) 0
+    ∷ gives (writing 15 162 8 (replicate 241 1) 494) 5
+    ∷ gives (writing 0 162 4 [] 8) 8
+    ∷ gives (writing 15 0 4 [] 8) 8
+    ∷ gives (writing 15 162 10 [] 8) 9
+    ∷ gives (writing 15 162 4 [] 7) 6
+    ∷ gives (writing 15 162 4 [] 8) 0
+    ∷ gives (valueRead 0 (1 ∷ []) 0) 40
+    ∷ gives (valueRead 8 (1 ∷ []) 0) 40
+    ∷ gives (valueRead 1 [] 0) 41
+    ∷ gives (valueRead 3 (1 ∷ 2 ∷ 3 ∷ []) 0) 41
+    ∷ gives (valueRead 3 (1 ∷ 2 ∷ []) 1) 42
+    ∷ gives (valueRead 3 (1 ∷ 2 ∷ []) 0) 0
+    ∷ gives (valueWritten 8 (Natural 0) 8) 40
+    ∷ gives (valueWritten 1 (Natural 256) 1) 43
+    ∷ gives (valueWritten 3 (Negative 0) 2) 43
+    ∷ gives (valueWritten 3 (Natural 0) 1) 44
+    ∷ gives (valueWritten 3 (Natural 0) 3) 0
+    ∷ gives (findTold (findEntry 0x67 0x12)) 50
+    ∷ gives (findTold (findEntry 0x67 0x11)) 0
+    ∷ gives (making 0) 34
+    ∷ gives (making 161) 34
+    ∷ gives (making 160) 0
+    ∷ gives (adding bench 49 0 7) 30
+    ∷ gives (adding bench 49 8 7) 30
+    ∷ gives (adding bench 49 7 8) 31
+    ∷ gives (adding bench 48 7 7) 32
+    ∷ gives (adding fullBench 48 7 7) 33
+    ∷ gives (adding bench 49 7 7) 0
+    ∷ gives (setting 49 (Natural 1)) 38
+    ∷ gives (setting 48 (Natural 256)) 43
+    ∷ gives (setting 48 (Natural 255)) 0
+    ∷ gives (taking (telegramFor 16 162 4 48 []) 8) 35
+    ∷ gives (taking (telegramFor 15 162 0 48 []) 8) 36
+    ∷ gives (taking (telegramFor 15 162 1 48 []) 8) 36
+    ∷ gives (taking (telegramFor 15 162 2 48 []) 8) 36
+    ∷ gives (taking (telegramFor 15 162 3 48 []) 8) 36
+    ∷ gives (taking (telegramFor 15 162 8 48 []) 8) 36
+    ∷ gives (taking (telegramFor 15 162 4 48 []) 7) 37
+    ∷ gives (taking (telegramFor 15 162 4 48 []) 8) 0
+    ∷ gives (taking (telegramFor 15 162 5 48 []) 8) 0
+    ∷ gives (taking (telegramFor 15 162 6 48 []) 8) 0
+    ∷ gives (taking (telegramFor 15 162 7 48 []) 8) 0
+    ∷ gives (taking (telegramFor 15 162 9 48 []) 8) 0
+    ∷ []
