@@ -1,5 +1,5 @@
-/* A small capture host: reads a capture from standard input and prints each frame that it finds in it, with its fields and
- * data, or with the number that refuses it.
+/* A small capture host: reads a capture of at most 65536 bytes from standard input and prints each frame that it finds in
+ * it, with its fields and data, or with the number that refuses it.
  *
  *     examples/host/build && tools/launch target/host/example <capture
  *
@@ -13,7 +13,7 @@
 
 #define MOST 65536
 
-static uint8_t capture[MOST];
+static uint8_t capture[MOST + 1]; /* one more, so that a longer capture is seen */
 
 static void show(size_t at, const uint8_t *frame, size_t length)
 {
@@ -43,6 +43,10 @@ int main(void)
     int open = 0;
     if (ferror(stdin)) {
         fprintf(stderr, "the capture cannot be read\n");
+        return 1;
+    }
+    if (length > MOST) {
+        fprintf(stderr, "the capture is longer than %d bytes: nothing is listed; cut it into pieces\n", MOST);
         return 1;
     }
     /* a 13 opens a frame, and drops one that is open; a 10 closes it */

@@ -2,6 +2,9 @@
  * then a seeded set of frames and values, right and damaged. Each lent buffer ends right before a page that can be neither
  * read nor written, or begins right behind one; the bytes on its other side are canaries. */
 #include "kamzhor.h"
+#include "kamzhor.h" /* twice does no harm */
+
+#include "constants.h"
 #include "plain.h"
 #include <stdio.h>
 #include <stdlib.h>
@@ -288,6 +291,40 @@ static void vectors(void)
     }
 }
 
+/* The archive's own numbers, by the header's names: one frame or value for each. */
+static void named(void)
+{
+    static const struct {
+        size_t n;
+        uint8_t bytes[12];
+        unsigned gives;
+    } by_name[] = {
+        {8, {13, 0xA2, 0x0F, 0x03, 0x30, 0x48, 0x2F, 10}, KAMZHOR_DONE},
+        {1, {13}, KAMZHOR_NOT_FRAMED},
+        {3, {13, 13, 10}, KAMZHOR_STRAY_END},
+        {4, {13, 0x5E, 0x41, 10}, KAMZHOR_BAD_SUBSTITUTION},
+        {2, {13, 10}, KAMZHOR_SHORT_MESSAGE},
+        {9, {13, 0x0F, 0xA2, 0x05, 0x30, 0x03, 0xBC, 0xE1, 10}, KAMZHOR_NO_ROOM},
+        {8, {13, 0x0F, 0xA2, 0x04, 0x66, 0xC7, 0xB7, 10}, KAMZHOR_CHECK_FAULT},
+        {8, {13, 0x00, 0xA2, 0x04, 0x32, 0x09, 0x29, 10}, KAMZHOR_ZERO_ADDRESS},
+        {9, {13, 0x0F, 0xA2, 0x5E, 0x4A, 0x32, 0xFE, 0xC8, 10}, KAMZHOR_UNKNOWN_TYPE},
+    };
+    static uint8_t frame[249], room[KAMZHOR_MOST_DATA];
+    size_t i;
+    doing = "names";
+    for (i = 0; i < sizeof by_name / sizeof *by_name; i++)
+        if (kamzhor_read_frame(by_name[i].bytes, by_name[i].n, NULL, 0).refusal != by_name[i].gives)
+            fail("the archive gives another number than the header's name says");
+    memset(frame, 1, sizeof frame);
+    frame[0] = 13;
+    frame[sizeof frame - 1] = 10;
+    if (kamzhor_read_frame(frame, sizeof frame, room, sizeof room).refusal != KAMZHOR_LONG_MESSAGE)
+        fail("a message of 247 bytes is not long");
+    if (kamzhor_read_value(0, frame, 1, 0).refusal != KAMZHOR_UNKNOWN_KIND || kamzhor_read_value(KAMZHOR_U16, frame, 1, 0).refusal != KAMZHOR_WRONG_LENGTH
+        || kamzhor_read_value(KAMZHOR_U8, frame, 1, 1).refusal != KAMZHOR_NO_SUCH_ELEMENT)
+        fail("the archive gives a value another number than the header's name says");
+}
+
 /* both sides of 240 data bytes, with rooms of the data's length, one less and one more */
 static void limits(void)
 {
@@ -439,6 +476,7 @@ int main(void)
     frames = ground();
     rooms = ground();
     vectors();
+    named();
     limits();
     seeded();
     doing = "count";

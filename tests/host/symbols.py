@@ -1,4 +1,5 @@
-"""symbols.py HEADER ARCHIVE: the functions that the header declares are the ones that the archive exports, both ways."""
+"""symbols.py HEADER ARCHIVE CONSTANTS: the functions that the header declares are the ones that the archive exports, and its
+constants those that tests/host/constants.h has numbers for, both ways."""
 import re
 import sys
 
@@ -17,3 +18,9 @@ exported = sorted(name.decode() for name in index[4 + 4 * count:].split(b"\0")[:
 if not declared or declared != exported:
     sys.exit(f"symbols: the header declares {declared}, the archive exports {exported}")
 print("symbols: header and archive have the same", len(declared), "functions")
+
+stated = sorted(set(re.findall(r"\bKAMZHOR_\w+", header)) - {"KAMZHOR_H"})
+looked_at = sorted(re.findall(r"\bIS\((KAMZHOR_\w+), \d+\)", open(sys.argv[3], encoding="ascii").read()))
+if not stated or stated != looked_at:
+    sys.exit(f"symbols: constants of only one of the header and {sys.argv[3]}: {sorted(set(stated) ^ set(looked_at))}")
+print("symbols: each of the header's", len(stated), "constants has its number from the paper")

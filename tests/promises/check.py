@@ -140,6 +140,8 @@ def check_call(call, row):
     if call.contract is None:
         fault(call.path, f"the `ensures` of {name} is not one named relation")
         return
+    if call.unsaid:
+        fault(call.path, f"the `ensures` of {name} does not speak of {', '.join(call.unsaid)}")
     if call.home is None:
         fault(call.path, f"{name} promises {call.contract}, which no `ghost use` brings from a specs/")
         return
@@ -153,15 +155,22 @@ def check_call(call, row):
         return
     if spans(cells[1]) != [f"{call.home}/specs: {call.contract}"]:
         fault(where, f"the contract in the `ensures` of {name} is {call.home}/specs: {call.contract}")
-    laws = [PART.fullmatch(s) for s in spans(cells[2])]
-    if len(laws) != 1 or not laws[0] or laws[0].group(2) != "proofs" or not laws[0].group(3).endswith("-once"):
-        fault(where, f"{name}: the third column wants one citation CRATE/proofs: ..-once")
-        return
-    said = names.statement(laws[0].group(1), laws[0].group(3))
-    if len(re.findall(rf"\b{call.contract}\b", said)) < 2:
-        fault(where, f"{laws[0].group(3)} of {laws[0].group(1)} does not speak of two outcomes of {call.contract}")
+    check_law(where, call, [PART.fullmatch(s) for s in spans(cells[2])])
     if wrong_programs(cells[3]) < 2:
         fault(where, f"{name} has fewer than two wrong programs")
+
+
+def check_law(where, call, laws):
+    """One law, which says `Settled` of the very contract in the call's `ensures`."""
+    if len(laws) != 1 or not laws[0] or laws[0].group(2) != "proofs" or not laws[0].group(3).endswith("-settled"):
+        fault(where, f"{call.crate}::{call.name}: the third column wants one citation CRATE/proofs: ..-settled")
+        return
+    crate, law = laws[0].group(1), laws[0].group(3)
+    contract, home, why = names.settles(crate, law)
+    if why:
+        fault(where, f"{law} of {crate} {why}")
+    elif (contract, home) != (call.contract, call.home):
+        fault(where, f"{law} of {crate} speaks of {home}/specs: {contract}, the call promises {call.home}/specs: {call.contract}")
 
 
 def wrong_programs(cell):
@@ -200,6 +209,22 @@ def check_wrong(text):
                         fault(f"docs/PROMISES.md:{at}", f"{span} is of another crate than {cells[0]}")
     for path in sorted(names.wrong() - cited):
         fault("docs/PROMISES.md", f'"{ROWS_OF_CALLS}" does not name the wrong program {path}')
+
+
+def check_crates():
+    """Every folder of crates/ is listed, who is exempt is a part of a test tool, and every file of definitions or laws is checked."""
+    listed = names.listed()
+    for path in sorted(names.CRATES.iterdir()):
+        if path.is_dir() and path.name not in listed:
+            fault("crates.txt", f"does not list crates/{path.name}, so nothing proves it")
+    for crate in sorted(names.EXEMPT - set(listed)):
+        fault("tests/promises/names.py", f"exempts {crate}, which crates.txt does not list")
+    for crate in names.library():
+        for below in set(listed[crate]) & names.EXEMPT:
+            fault("crates.txt", f"{crate} stands on {below}, whose calls need no promise")
+    for path in sorted(names.CRATES.glob("*/specs/*.antt")) + sorted(names.CRATES.glob("*/proofs/*.antt")):
+        if path.name != "Lib.antt" and not re.search(rf"^pub mod {path.stem}$", names.read(path.parent / "Lib.antt"), re.M):
+            fault(str(path.relative_to(names.ROOT)), "is not in its Lib.antt, so nothing checks it")
 
 
 def check_specs():
@@ -273,6 +298,7 @@ def main(words):
     check_others()
     calls = check_calls(text)
     edits = check_edits(text)
+    check_crates()
     check_specs()
     check_sample()
     said = ""

@@ -21,22 +21,21 @@ def read(path):
         sys.exit(f"promises: {path} cannot be read: {problem}")
 
 
+# Library crates whose calls docs/PROMISES.md need not name: the parts of the test tool `rehearsal`. No other crate is exempt,
+# and no crate of the product stands on one of these.
+EXEMPT = {"words", "answers", "telegram_calls", "values_calls", "desk_calls", "bench_calls"}
+
+
+@functools.lru_cache(maxsize=None)
 def listed():
-    """The crates of crates.txt, in order, each with the comments of its group. A blank line ends a group."""
-    crates, comment = {}, ""
-    for line in read(ROOT / "crates.txt").splitlines():
-        if line.startswith("#"):
-            comment += line
-        elif not line.strip():
-            comment = ""
-        else:
-            crates[line.split(":")[0].strip()] = comment
-    return crates
+    """The crates of crates.txt, in order, each with those that it stands on."""
+    lines = (line for line in read(ROOT / "crates.txt").splitlines() if line.strip() and not line.startswith("#"))
+    return {name.strip(): stands_on.split() for name, _, stands_on in (line.partition(":") for line in lines)}
 
 
 def library():
-    """The crates of the product's library: those with a src/lib.rt whose group in crates.txt is not one of tests."""
-    return [c for c, comment in listed().items() if (CRATES / c / "src" / "lib.rt").is_file() and not re.search(r"\btests?\b", comment)]
+    """The crates of the product's library: all that have a src/lib.rt, but for those that are exempt by name."""
+    return [c for c in listed() if (CRATES / c / "src" / "lib.rt").is_file() and c not in EXEMPT]
 
 
 @functools.lru_cache(maxsize=None)
@@ -65,36 +64,93 @@ def wrong():
     return {str(p.relative_to(ROOT)) for p in (ROOT / "tests" / "wrong").glob("*/*.edit")}
 
 
+# ---- public calls
+
+# `pub fn`, whether it stands at the line's start or in an `impl`
+PUB_FN = re.compile(r'\bpub\s+(?:(?:const|unsafe|extern\s+"C")\s+)*fn\s+(\w+)')
+CLAUSE = re.compile(r"(?:requires|ensures|invariant|decreases)\s*$")
+
+
+def past(text, at):
+    """The place after the brace that closes the one at this place."""
+    depth = 0
+    for i in range(at, len(text)):
+        depth += {"{": 1, "}": -1}.get(text[i], 0)
+        if depth == 0:
+            return i + 1
+    return len(text)
+
+
+def head(text, at):
+    """A function's head: up to the brace that opens its body, which follows no clause."""
+    i = text.find("{", at)
+    while i >= 0 and CLAUSE.search(text, at, i):
+        i = text.find("{", past(text, i))
+    return text[at:i] if i >= 0 else text[at:]
+
+
 class Call:
     """A public function: where it stands, what its `ensures` names, and from which crate that name comes."""
 
-    def __init__(self, crate, path, name, head, uses):
+    def __init__(self, crate, path, name, said, uses):
         self.crate, self.path, self.name = crate, path, name
-        self.requires = re.search(r"^\s*requires\b", head, re.M) is not None
-        stated = re.search(r"ensures\s*\{\s*λ\s*\S+\s*⌜(.*?)⌝\s*\}", head, re.S)
-        words = stated.group(1).split() if stated else []
-        self.contract = words[0] if words and re.fullmatch(r"[A-Z]\w*", words[0]) and not re.search(r"[≡×⊎]", stated.group(1)) else None
+        self.requires = re.search(r"\brequires\b", said) is not None
+        stated = re.findall(r"\bensures\s*\{\s*λ\s*(\w+)\.\s*⌜(.*?)⌝\s*\}", said, re.S)
+        answer, relation = stated[0] if len(stated) == 1 else ("_", "")
+        named = re.match(r"\s*([A-Z]\w*)\s", relation)
+        self.contract = named.group(1) if named and not re.search(r"[≡×⊎→]", relation) else None
+        # what the relation must speak of: each lent buffer as it is afterwards, and the answer where there is one
+        lent = [f"{room} .exit" for room in re.findall(r"(\w+):\s*&\s*mut\b", said)]
+        self.unsaid = [part for part in lent + [answer] * ("->" in said) if not re.search(rf"\b{part}\b", relation)]
         self.home = uses.get(self.contract)
 
 
 def calls(crate):
     """Every `pub fn` of a crate."""
     for path in sources(crate, "src", ".rt"):
-        text = read(path)
-        uses = {}
-        for home, brought in re.findall(r"^ghost use Rattle·(\w+)(?:·specs)?\.specs\.[\w.-]+\.\{(.*?)\};", text, re.M | re.S):
-            for item in brought.split(","):
-                name, _, other = item.strip().partition(" as ")
-                uses[other or name] = home
-        for found in re.finditer(r"^pub (?:extern \"C\" )?fn (\w+)(.*?)\{$", text, re.M | re.S):
-            yield Call(crate, path.relative_to(ROOT), found.group(1), found.group(2), uses)
+        text = re.sub(r"//.*", "", read(path))
+        uses = brought(text, "ghost use")
+        for found in PUB_FN.finditer(text):
+            yield Call(crate, path.relative_to(ROOT), found.group(1), head(text, found.end()), uses)
 
 
-@functools.lru_cache(maxsize=None)
-def statement(crate, law):
-    """What a law states: from its name to the line that begins its proof."""
+def brought(text, word):
+    """What a file brings in from the specs/ of a crate, by name."""
+    uses = {}
+    for home, items in re.findall(rf"^{word} Rattle·(\w+)(?:·specs)?\.specs\.[\w.-]+\.\{{(.*?)\}}", text, re.M | re.S):
+        for item in items.split(","):
+            name, _, other = item.strip().partition(" as ")
+            uses[other or name] = home if not other else None
+    return uses
+
+
+# ---- laws
+
+# `(a b : T) .. → Settled (CONTRACT a b ..)`, or with an answer and a buffer `(λ o. CONTRACT a b .. (o .0) (o .1))`
+SETTLED = re.compile(r"((?:\([^()]*\) )*)(?:→ )?Settled (?:\{A = [^{}]*\} )?(?:(\w+)|\((\w+)((?: \w+)*)\)|\(λ o\. (\w+)((?: \w+)*) \(o \.0\) \(o \.1\)\))")
+
+
+def settles(crate, law):
+    """The contract of which a law says `Settled`, whatever the call is given, and the crate that it comes from; else why it does not."""
     for path in sources(crate, "proofs", ".antt"):
-        found = re.search(r"^\s*(?:abbrev |unfoldable |pub )*%s\s*:(.*?)^\s*(?:unfolding\b|%s\b)" % (re.escape(law), re.escape(law)), read(path), re.M | re.S)
+        text = re.sub(r"--.*", "", read(path))
+        found = re.search(rf"^pub {re.escape(law)} :(.*?)^(?:unfolding\b|{re.escape(law)}\b)", text, re.M | re.S)
         if found:
-            return found.group(1)
-    return ""
+            return settled_of(text, " ".join(found.group(1).split()))
+    return None, None, "is no law at the start of a line there"
+
+
+def settled_of(text, said):
+    fits = SETTLED.fullmatch(said)
+    if not fits:
+        return None, None, "does not end in `Settled` of a contract alone"
+    given = [name for names in re.findall(r"\(([^():]*):", fits.group(1)) for name in names.split()]
+    contract = fits.group(2) or fits.group(3) or fits.group(5)
+    taken = (fits.group(4) or fits.group(6) or "").split()
+    uses = brought(text, "use")
+    own = {m.group(1) or m.group(2) for m in ANTT.finditer(text)}
+    if uses.get("Settled") != "rows" or own & {"Settled", contract}:
+        return None, None, "has another `Settled` than that of rows/specs, or a contract of its own"
+    if given != taken or len(set(given)) < len(given):
+        return None, None, f"is not about any {contract}: it has {' '.join(given) or 'nothing'} and speaks of {' '.join(taken) or 'nothing'}"
+    return contract, uses.get(contract), ""

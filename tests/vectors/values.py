@@ -1,23 +1,16 @@
 #!/usr/bin/env python3
-"""What crates/values_vectors must write, worked out from the paper and not from the code under test.
-
-    tests/vectors/values.py            writes the lines to standard output
-    tests/vectors/values.py --check    says whether crates/values_vectors/stdout is those lines
-
-The calls are the lines of crates/values_vectors/stdin, written by hand; what each must answer comes from the rules below,
-which are 01's "Register values" and rows 40 to 44 in Python's own integers.
+"""values.py < CALLS: what these calls on register values must answer, worked out from the paper and not from the code under
+test. The calls are the lines of tests/vectors/values.calls and of crates/values_vectors/stdin, written by hand; what each
+must answer comes from the rules below, which are 01's "Register values" and rows 40 to 44 in Python's own integers.
 """
-import pathlib
 import sys
-
-crate = pathlib.Path(__file__).resolve().parents[2] / "crates" / "values_vectors"
 
 # kind: size, signed
 KINDS = {1: (1, False), 2: (1, True), 3: (2, False), 4: (2, True), 5: (4, False), 6: (4, True), 7: (8, False)}
 
 
 def hexed(data):
-    return data.hex()
+    return data.hex() or "-"
 
 
 def can_hold(kind, value):
@@ -38,7 +31,7 @@ def read(kind, data, element):
     parts = [data[i:i + size] for i in range(0, len(data), size)]
     if element >= len(parts):
         return "no 42"
-    return str(int.from_bytes(parts[element], "little", signed=signed))
+    return f"ok value={int.from_bytes(parts[element], 'little', signed=signed)}"
 
 
 def refusal(kind, value, room=None):
@@ -58,11 +51,11 @@ def laid(data, room):
 
 
 def write(kind, value, room):
-    no = refusal(kind, value, room)
+    no = refusal(kind, value, len(room))
     if no:
-        return f"{no} {hexed(laid(b'', room))}"
+        return f"{no} buf={hexed(room)}"
     size, signed = KINDS[kind]
-    return f"ok {hexed(laid(value.to_bytes(size, 'little', signed=signed), room))}"
+    return f"ok buf={hexed(value.to_bytes(size, 'little', signed=signed) + room[size:])}"
 
 
 def keep(kind, value):
@@ -86,13 +79,13 @@ def masked(v, mask):
 
 
 def answer(call, *words):
-    if call == "get":
+    if call == "val.get":
         return read(int(words[0]), text(words[1]), int(words[2]))
+    if call == "val.put":
+        return write(int(words[0]), int(words[1]), text(words[2]))
     if call == "load":
         return str(int.from_bytes(text(words[0])[:8], "little"))
     numbers = [int(word) for word in words]
-    if call == "put":
-        return write(*numbers)
     if call == "keep":
         return keep(*numbers)
     if call == "size":
@@ -108,10 +101,7 @@ def answer(call, *words):
     raise SystemExit(f"no such call: {call}")
 
 
-calls = (crate / "stdin").read_text().splitlines()
-out = "".join(f"{line}: {answer(*line.split())}\n" for line in calls)
-if sys.argv[1:] == ["--check"]:
-    same = (crate / "stdout").read_text() == out
-    print("values_vectors: stdout", "is" if same else "is NOT", f"what the paper says ({len(calls)} calls)")
-    sys.exit(0 if same else 1)
-sys.stdout.write(out)
+for line in sys.stdin.read().splitlines():
+    said = answer(*line.split())
+    # the program says each line again before its answer, `rehearsal` does not
+    print(said if line.startswith("val.") else f"{line}: {said}")

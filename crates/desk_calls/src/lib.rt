@@ -4,6 +4,7 @@ use desk::Booking;
 use desk::Closing;
 use desk::Desk;
 use desk::Opening;
+use desk::Request;
 use desk::Seen;
 use desk::Ticket;
 use words::Words;
@@ -70,13 +71,10 @@ fn open(d: Desk, w: Words, line: &[u8], out: &mut [u8]) -> Told {
     bad(d, out)
 }
 
-// What a request begins with, and the words behind it.
+// Up to the data: job, module, type and register; the waiting time is still 0.
 struct Ask {
     words: Words,
-    job: u32,
-    unit: u8,
-    sort: u8,
-    register: u8,
+    asked: Request,
 }
 
 fn take_ask(w: Words, line: &[u8]) -> Ask {
@@ -86,14 +84,17 @@ fn take_ask(w: Words, line: &[u8]) -> Ask {
     let d = words::number(c, line, 255);
     Ask {
         words: d,
-        job: word32(a.value),
-        unit: byte(b.value),
-        sort: byte(c.value),
-        register: byte(d.value),
+        asked: Request {
+            job: word32(a.value),
+            unit: byte(b.value),
+            sort: byte(c.value),
+            register: byte(d.value),
+            wait: 0,
+        },
     }
 }
 
-// The waiting time and the clock; the folder between them is passed over.
+// Behind the data: the waiting time and the clock; the folder between them is passed over.
 struct Times {
     words: Words,
     wait: u32,
@@ -112,17 +113,9 @@ fn take_times(w: Words, line: &[u8]) -> Times {
 }
 
 fn open_now(d: Desk, ask: Ask, data: &[u8], times: Times, room: &mut [u8], out: &mut [u8]) -> Told {
-    let after = desk::open(
-        d,
-        ask.job,
-        ask.unit,
-        ask.sort,
-        ask.register,
-        data,
-        times.wait,
-        times.clock,
-        room,
-    );
+    let mut asked = ask.asked;
+    asked.wait = times.wait;
+    let after = desk::open(d, asked, data, times.clock, room);
     let answer = after.answer;
     let at = opened(answer, out);
     let next = after.desk;
@@ -264,16 +257,17 @@ fn ticket(d: Desk, address: u8, out: &mut [u8], from: usize, at: usize) -> usize
 }
 
 fn ticket_fields(t: Ticket, out: &mut [u8], at: usize) -> usize {
-    let a = request_fields(t, out, at);
-    let b = answers::field(out, a, b":", t.wait as u64);
+    let asked = t.asked;
+    let a = request_fields(asked, out, at);
+    let b = answers::field(out, a, b":", asked.wait as u64);
     answers::field(out, b, b":", t.opened as u64)
 }
 
-fn request_fields(t: Ticket, out: &mut [u8], at: usize) -> usize {
-    let a = answers::field(out, at, b":", t.job as u64);
-    let b = answers::field(out, a, b":", t.unit as u64);
-    let c = answers::field(out, b, b":", t.sort as u64);
-    answers::field(out, c, b":", t.register as u64)
+fn request_fields(asked: Request, out: &mut [u8], at: usize) -> usize {
+    let a = answers::field(out, at, b":", asked.job as u64);
+    let b = answers::field(out, a, b":", asked.unit as u64);
+    let c = answers::field(out, b, b":", asked.sort as u64);
+    answers::field(out, c, b":", asked.register as u64)
 }
 
 fn bad(d: Desk, out: &mut [u8]) -> Told {

@@ -1,7 +1,9 @@
 // Rehearses a night without a rig: reads call lines from standard input to its end and writes one
-// answer line for each. It calls the library's public functions and decides nothing itself.
+// answer line for each. It calls the library's public functions and decides nothing itself. Where it
+// cannot read on or cannot write an answer, it says so on standard error and ends.
 use bench::Bench;
 use desk::Desk;
+use libc::STDERR_FILENO;
 use libc::STDIN_FILENO;
 use libc::STDOUT_FILENO;
 use words::Words;
@@ -16,11 +18,14 @@ struct Made {
     has_bench: bool,
 }
 
-// What is gathered of the line that has not ended yet.
+// What is gathered of the line that has not ended yet, how many answers were written, and whether
+// one was lost, after which nothing is answered any more.
 struct Gathered {
     used: usize,
     long: bool,
     made: Made,
+    answered: u64,
+    lost: bool,
 }
 
 // What the calls have made after one more, and how long its answer is.
@@ -35,22 +40,43 @@ fn main() {
     run(&mut line, &mut out);
 }
 
-// Reads chunk after chunk. The line and the answer have their space lent, once for all.
+// Reads chunk after chunk. The line and the answer have their space lent, once for all. Half a line
+// at which reading fails is not answered.
 fn run(line: &mut [u8], out: &mut [u8]) {
     let mut chunk = io::large_buffer();
-    let mut gathered = next_line(nothing());
+    let mut gathered = next_line(nothing(), 0);
     let mut budget: u64 = 18446744073709551615;
     while 0 < budget {
         budget -= 1;
-        let n = io::count(libc::read(STDIN_FILENO, &mut chunk), &chunk);
+        let got = libc::read(STDIN_FILENO, &mut chunk);
+        if got < 0 {
+            tell(
+                b"rehearsal: the calls could not be read further; answers written: ",
+                gathered.answered,
+                out,
+            );
+            return;
+        }
+        let n = io::count(got, &chunk);
         if n == 0 {
             break;
         }
         gathered = feed(&chunk[..n], line, out, gathered);
+        if gathered.lost {
+            return;
+        }
     }
     if 0 < gathered.used {
         end_line(line, gathered, out);
     }
+}
+
+// One line on standard error. Nothing can be done where that fails too.
+fn tell(what: &[u8], answered: u64, out: &mut [u8]) {
+    let counted = answers::text(out, 0, what);
+    let ended = answers::number(out, counted, answered);
+    let at = answers::text(out, ended, b"\n");
+    show(STDERR_FILENO, out, at);
 }
 
 fn nothing() -> Made {
@@ -64,11 +90,13 @@ fn nothing() -> Made {
 }
 
 // Nothing gathered yet, with what was made so far.
-fn next_line(made: Made) -> Gathered {
+fn next_line(made: Made, answered: u64) -> Gathered {
     Gathered {
         used: 0,
         long: false,
         made: made,
+        answered: answered,
+        lost: false,
     }
 }
 
@@ -84,11 +112,14 @@ fn feed(chunk: &[u8], line: &mut [u8], out: &mut [u8], before: Gathered) -> Gath
     gathered
 }
 
-// Adds a piece to the line, and answers the line where the piece ends it.
+// Adds a piece to the line, and answers the line where the piece ends it. Nothing after a lost answer.
 fn piece(part: &[u8], ends: bool, line: &mut [u8], out: &mut [u8], before: Gathered) -> Gathered {
+    if before.lost {
+        return before;
+    }
     let gathered = gather(part, line, before);
     if ends {
-        return next_line(end_line(line, gathered, out));
+        return end_line(line, gathered, out);
     }
     gathered
 }
@@ -108,17 +139,29 @@ fn gather(part: &[u8], line: &mut [u8], before: Gathered) -> Gathered {
     next
 }
 
-// Answers a line that has ended. One write for a whole answer.
-fn end_line(line: &[u8], gathered: Gathered, out: &mut [u8]) -> Made {
+// Answers a line that has ended, with one write for the whole answer.
+fn end_line(line: &[u8], gathered: Gathered, out: &mut [u8]) -> Gathered {
+    let answered = gathered.answered;
     let said = answer_to(line, gathered, out);
     let at = answers::text(out, said.at, b"\n");
-    show(out, at);
-    said.made
+    let shown = show(STDOUT_FILENO, out, at);
+    let mut next = next_line(said.made, answered);
+    if shown {
+        next.answered = std::num::wrapping_add_u64(answered, 1);
+        return next;
+    }
+    tell(
+        b"rehearsal: an answer could not be written; answers written before it: ",
+        answered,
+        out,
+    );
+    next.lost = true;
+    next
 }
 
-fn show(out: &[u8], at: usize) {
+fn show(fd: i32, out: &[u8], at: usize) -> bool {
     let n = words::count(at as u64, out);
-    io::write_all(STDOUT_FILENO, &out[..n]);
+    io::write_all(fd, &out[..n])
 }
 
 fn answer_to(line: &[u8], gathered: Gathered, out: &mut [u8]) -> Said {

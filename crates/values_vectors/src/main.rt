@@ -1,9 +1,8 @@
-// Register values, one call a line: each line of standard input is written out again, with what
-// the library answers. The file `stdout` was worked out from the paper by tests/vectors/values.py,
-// which has its own reading of the paper's rules. A line that does not read as below is called bad.
+// What the library does with register values that no call line of `rehearsal` asks for, one call a
+// line: each line of standard input is written out again, with what the library answers. The file
+// `stdout` was worked out from the paper by tests/vectors/values.py, which has its own reading of the
+// paper's rules. A line that does not read as below is called bad.
 //
-//     get KIND BYTES ELEMENT      a value read
-//     put KIND VALUE ROOM         a value written into the first ROOM of ten bytes aa, all ten shown
 //     keep KIND VALUE             the stored form of a value
 //     size KIND
 //     load BYTES
@@ -13,10 +12,8 @@
 use libc::STDIN_FILENO;
 use libc::STDOUT_FILENO;
 use values::Fault;
-use values::Reading;
 use values::Stored;
 use values::Value;
-use values::Writing;
 use words::Words;
 use words::byte;
 use words::count;
@@ -38,18 +35,6 @@ fn say_bytes(bytes: &[u8]) {
     while i < bytes.len() {
         say_byte(bytes[i]);
         i += 1;
-    }
-}
-
-fn say_value(value: Value) {
-    match value {
-        Value::Natural(n) => say_number(n),
-        Value::Negative(m) => {
-            say(b"-");
-            if m < u64::MAX {
-                say_number(m + 1);
-            }
-        }
     }
 }
 
@@ -76,46 +61,6 @@ fn value(v: Words) -> Value {
         return Value::Negative(std::num::wrapping_sub_u64(v.value, 1));
     }
     Value::Natural(v.value)
-}
-
-fn get(w: Words, line: &[u8]) -> Words {
-    let mut space = [0u8; 32];
-    let a = words::number(w, line, 255);
-    let p = words::bytes(a, line, &mut space);
-    let q = words::number(p, line, u64::MAX);
-    let n = count(p.value, &space);
-    match values::read(byte(a.value), &space[..n], q.value) {
-        Reading::Is(value) => say_value(value),
-        Reading::Refused(fault) => say_fault(fault),
-    }
-    q
-}
-
-fn say_written(answer: Writing) {
-    match answer {
-        Writing::Done => say(b"ok "),
-        Writing::Refused(fault) => {
-            say_fault(fault);
-            say(b" ");
-        }
-    }
-}
-
-fn put_into(w: Words, line: &[u8], ten: &mut [u8]) -> Words {
-    let a = words::number(w, line, 255);
-    let v = take_value(a, line);
-    let q = words::number(v, line, 10);
-    let n = count(q.value, ten);
-    say_written(values::write(byte(a.value), value(v), &mut ten[..n]));
-    q
-}
-
-fn put(w: Words, line: &[u8]) -> Words {
-    let mut space = [0xaau8; 10];
-    let ten: &mut [u8] = &mut space;
-    let end = put_into(w, line, ten);
-    say_bytes(ten);
-    end
 }
 
 fn keep(w: Words, line: &[u8]) -> Words {
@@ -198,8 +143,6 @@ fn call(w: Words, line: &[u8]) -> Words {
         return words::start();
     }
     match line[0] {
-        b'g' => get(w, line),
-        b'p' => put(w, line),
         b'k' => keep(w, line),
         b's' => size(w, line),
         b'l' => load(w, line),

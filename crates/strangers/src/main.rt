@@ -1,0 +1,146 @@
+// Desks and benches that no call made. Every call answers them all the same, as its contract says. No
+// call line can make them, so what is expected was worked out by hand from the contracts, as said
+// below. The telegrams' bytes are the model's.
+use bench::Bench;
+use bench::Register;
+use desk::Desk;
+use desk::Request;
+use desk::Ticket;
+use libc::STDOUT_FILENO;
+
+// Its type is no request's, and it has no time to wait.
+const ODD: Ticket = Ticket {
+    live: true,
+    asked: Request {
+        job: 9,
+        unit: 15,
+        sort: 8,
+        register: 48,
+        wait: 0,
+    },
+    opened: 0,
+};
+
+fn main() {
+    desks();
+    no_kind();
+    twice();
+}
+
+// A turn past the last place, which counts round after 95 places, and a ticket that no opening makes:
+// it counts as a write's, and is due at once.
+fn desks() {
+    let fresh = desk::fresh();
+    let none = fresh.tickets;
+    let far = Desk {
+        turn: 200,
+        tickets: none,
+    };
+    dump(call(far, b"desk.open 1 15 4 48 - 1 0 0 eeeeeeeeeeeeeeeeeeeeeeee"));
+    let mut odd = none;
+    odd[0] = ODD;
+    let past = Desk {
+        turn: 95,
+        tickets: odd,
+    };
+    dump(call(past, b"desk.reply 0da10f0330d3f30a eeeeeeee"));
+    let last = Desk {
+        turn: 255,
+        tickets: odd,
+    };
+    call(
+        call(last, b"desk.expire 0"),
+        b"desk.open 1 15 4 48 - 1 0 0 eeeeeeeeeeeeee",
+    );
+}
+
+// A count of 99, and 32 times a register of kind 0, which has no bytes. All 32 are held, the first of
+// them is the one that answers, and one more is too many (33). No number is one of kind 0 (43). A read
+// answers a datagram without data, and a write without data has exactly the kind's size: ack.
+fn no_kind() {
+    let rig = Bench {
+        address: 15,
+        count: 99,
+        registers: [held(0, 5); 32],
+    };
+    let mut b = ask(rig, b"bench.dump");
+    b = ask(b, b"bench.add 51 0 3");
+    b = ask(b, b"bench.add 102 3 3");
+    b = ask(b, b"bench.add 51 3 3");
+    b = ask(b, b"bench.set 102 0");
+    b = ask(b, b"bench.set 51 0");
+    b = ask(b, b"bench.tele 0d0fa20466c7b60a aaaaaaaaaaaaaaaa");
+    b = ask(b, b"bench.tele 0d0fa2056601005e4d5b0a aaaaaaaaaaaaaaaa");
+    b = ask(b, b"bench.tele 0d0fa20433cde60a aaaaaaaaaaaaaaaa");
+    b = ask(b, b"bench.tele 0d0fa20566f4870a aaaaaaaaaaaaaaaa");
+    ask(b, b"bench.dump");
+}
+
+// One register twice, with 5 and with 9, and a third past the count. The first is read, set and
+// written; the second is never seen, and the third is not held.
+fn twice() {
+    let mut registers = [held(3, 5); 32];
+    registers[1] = held(3, 9);
+    registers[2] = Register {
+        number: 51,
+        kind: 3,
+        rights: 7,
+        value: 7,
+    };
+    let rig = Bench {
+        address: 15,
+        count: 2,
+        registers: registers,
+    };
+    let mut b = ask(rig, b"bench.dump");
+    b = ask(b, b"bench.add 102 3 7");
+    b = ask(b, b"bench.tele 0d0fa20466c7b60a aaaaaaaaaaaaaaaaaaaa");
+    b = ask(b, b"bench.tele 0d0fa20433cde60a aaaaaaaaaaaaaaaaaaaa");
+    b = ask(b, b"bench.set 102 6");
+    b = ask(b, b"bench.tele 0d0fa205663412c5480a aaaaaaaaaaaaaaaa");
+    b = ask(b, b"bench.tele 0d0fa20466c7b60a aaaaaaaaaaaaaaaaaaaa");
+    b = ask(b, b"bench.add 51 1 1");
+    ask(b, b"bench.dump");
+}
+
+// Register 102 with every right.
+fn held(kind: u8, value: u64) -> Register {
+    Register {
+        number: 102,
+        kind: kind,
+        rights: 7,
+        value: value,
+    }
+}
+
+fn dump(desk: Desk) {
+    call(desk, b"desk.dump");
+}
+
+// Makes the call of a line on the desk, and writes its answer.
+fn call(desk: Desk, line: &[u8]) -> Desk {
+    let mut out = [0u8; 256];
+    let told = desk_calls::answer(desk, words::word(words::start(), line), line, &mut out);
+    say(&mut out, told.at);
+    told.desk
+}
+
+// The same on the bench.
+fn ask(bench: Bench, line: &[u8]) -> Bench {
+    let mut out = [0u8; 256];
+    let told = bench_calls::answer(
+        bench,
+        true,
+        words::word(words::start(), line),
+        line,
+        &mut out,
+    );
+    say(&mut out, told.at);
+    told.bench
+}
+
+fn say(out: &mut [u8], at: usize) {
+    let end = answers::text(out, at, b"\n");
+    let n = words::count(end as u64, out);
+    io::write_all(STDOUT_FILENO, &out[..n]);
+}

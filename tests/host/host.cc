@@ -1,0 +1,39 @@
+/* The library from C++, with neither its headers nor its library: that the header's names are C's there too, and that both
+ * answers come back whole. */
+#include "kamzhor.h"
+#include "kamzhor.h"
+
+#include "constants.h"
+
+extern "C" int puts(const char *text);
+
+static bool frame_read()
+{
+    const uint8_t frame[] = {13, 0xA2, 0x5E, 0x4A, 0x08, 0x11, 0x5E, 0x9E, 0x91, 0x63, 0x7E, 10};
+    uint8_t room[KAMZHOR_MOST_DATA] = {0};
+    kamzhor_frame t = kamzhor_read_frame(frame, sizeof frame, room, sizeof room);
+    if (t.refusal != KAMZHOR_DONE || t.destination != 162 || t.source != 10 || t.type != KAMZHOR_DATAGRAM || t.reg != 17 || t.size != 2 || t.place != 0)
+        return false;
+    kamzhor_value v = kamzhor_read_value(KAMZHOR_U16, room, (size_t)t.size, 0);
+    return v.refusal == KAMZHOR_DONE && v.negative == 0 && v.magnitude == 37214;
+}
+
+static bool refused()
+{
+    const uint8_t frame[] = {13, 0x0F, 0xA2, 0x04, 0x66, 0xC7, 0xB7, 10}, below[] = {0x00, 0x80};
+    kamzhor_frame t = kamzhor_read_frame(frame, sizeof frame, 0, 0);
+    kamzhor_value v = kamzhor_read_value(KAMZHOR_I16, below, sizeof below, 0);
+    return t.refusal == KAMZHOR_CHECK_FAULT && t.size == 0 && v.negative == 1 && v.magnitude == 32768
+        && kamzhor_read_value(8, below, sizeof below, 0).refusal == KAMZHOR_UNKNOWN_KIND;
+}
+
+int main()
+{
+    const uint8_t bytes[] = {0x0F, 0xA2, 0x04, 0x66};
+    if (kamzhor_remainder(bytes, sizeof bytes) != 0xC7B6 || !frame_read() || !refused()) {
+        puts("host: FAILED from C++");
+        return 1;
+    }
+    puts("host: the same calls from C++");
+    return 0;
+}
