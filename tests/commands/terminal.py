@@ -53,7 +53,7 @@ def play(folder, words, steps, limit=60):
 
 
 def main(folder, crates):
-    shown, status = play(folder, ["list", "--ready"], [("proving rows, 2 of", b"\x03")])
+    shown, status = play(folder, ["list", "--ready"], [(", 2 of", b"\x03")])
     same("^C while it proves: status 130", status == 130, (shown, status))
     os.rmdir(os.path.join(os.environ["STUB"], "busy"))
     shown, status = play(folder, ["list", "--ready"], [])
