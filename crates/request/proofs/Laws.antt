@@ -1,20 +1,23 @@
 -- What is promised of a request that is judged: the laws that callers may cite.
 -- Assumes nothing.
 use mathlib.Core.Path.{_≡_, refl, ap, _∙_}
+use mathlib.Core.Bool.{Bool, false, cond, not}
 use mathlib.Core.List.{List, [], _∷_}
 use mathlib.Core.Logic.{_≢_, _⊎_, inl, inr, ⊎-elim}
 use mathlib.Core.Option.{Option, some, none}
 use Prim.Native.Nat.{ℕ, _≤_, _<_}
 use native.Mathlib.Omega.{arith}
 use native.Mathlib.Decide.{decLe}
+use borrow.Author.Tests.{ne-eqb}
 use lib.ListN.{length}
 use Rattle.rows.proofs.Settled.{settled}
 use Rattle.rows.specs.Settled.{Settled}
 use Rattle.rows.proofs.Laws.{Decides, decides-lt, decides-le, decides-eq, decides-not, decides-or, decides-and, decides-as, ranked, _otherwise_, done-exactly, numbered}
 use Rattle.rows.specs.Rows.{Ranked, Numbered, passedUp, raised}
-use Rattle.request.specs.Request.{IsNoJob, IsNotAModule, IsNotARequest, IsWrongData, IsWrongWait, askRows, oneTo, isRequest, askTests, askRefusal, askAnswer, askTold, faultNumber, Asks, Numbers}
+use Rattle.request.specs.Request.{IsNoJob, IsNotAModule, IsNotARequest, IsWrongData, IsWrongWait, askRows, oneTo, isRequest, isWrongData, askTests, askRefusal, askAnswer, askTold, faultNumber, Asks, Numbers}
 use Rattle.request.specs.declared.Request.{Request}
 use Rattle.request.specs.declared.Fault.{Fault}
+use Rattle.request.specs.declared.Fault.the-variants.{WrongWait}
 use Rattle.request.specs.declared.Asking.{Asking}
 use Rattle.request.specs.declared.Asking.the-variants.{Allowed, Denied}
 
@@ -73,6 +76,14 @@ unfolding askRows
 ask-exactly asked bytes r p =
     numbered faultNumber (askRows asked bytes) (askRefusal asked bytes) (ask-ranked asked bytes) (10 ∷ 11 ∷ 12 ∷ 13 ∷ 14 ∷ []) refl refl
     (askTold r) (ap askTold p ∙ tells (askRefusal asked bytes))
+
+-- what is left to ask once rows 10 to 13 do not refuse
+pub past-13 : (asked : Request) (bytes : List ℕ) {named asks wrong : Bool} → asked .job ≢ 0
+    → named ≡ oneTo 160 (asked .unit) → not named ≡ false → asks ≡ isRequest (asked .sort) → not asks ≡ false
+    → wrong ≡ isWrongData (asked .sort) (length bytes) → wrong ≡ false
+    → askRefusal asked bytes ≡ cond (not (oneTo 60000 (asked .wait))) (some WrongWait) none
+unfolding askRefusal
+past-13 asked bytes job unit named sort asks size right = rw (ne-eqb (asked .job) 0 job, ← unit, named, ← sort, asks, ← size, right)
 
 -- what an answer tells of the refusal that it was made from
 pub asked-denied : (o : Option Fault) (f : Fault) → Denied f ≡ askAnswer o → o ≡ some f

@@ -1,7 +1,7 @@
 -- What the groups of tests tell, and how the reader's answer is put together from them.
 -- Assumes nothing.
 use mathlib.Core.Path.{_≡_, refl, sym, ap, _∙_}
-use mathlib.Core.Bool.{Bool, true, false, not, _||_, true≢false}
+use mathlib.Core.Bool.{Bool, true, false, cond, not, _||_, true≢false}
 use mathlib.Core.List.{List}
 use mathlib.Core.Option.{Option, some, none}
 use mathlib.Core.Logic.{_≢_, inl, inr}
@@ -19,12 +19,12 @@ use Rattle.lent.specs.Lent.{over}
 use Rattle.remainder.specs.Remainder.{remainderOf}
 use Rattle.frame.specs.Frame.{between, restored, messageOf}
 use Rattle.telegram.specs.declared.Fault.{Fault}
-use Rattle.telegram.specs.declared.Fault.the-variants.{NotFramed, ShortMessage, LongMessage, NoRoom, CheckFault, ZeroAddress, UnknownType}
+use Rattle.telegram.specs.declared.Fault.the-variants.{NotFramed, BadSubstitution, ShortMessage, LongMessage, NoRoom, CheckFault, ZeroAddress, UnknownType}
 use Rattle.telegram.specs.declared.Judged.the-variants.{Sound, Unsound}
 use Rattle.telegram.specs.declared.Fields.{Fields}
 use Rattle.telegram.specs.declared.Reading.{Reading}
 use Rattle.telegram.specs.declared.Reading.the-variants.{Telegram, Refused}
-use Rattle.telegram.specs.Read.{byte, notFramed, frameTests, lengthTests, messageTests, judged, readRefusal, fieldsOf, readAnswer, readFrame, messageRefusal, dataOf, fieldsIn}
+use Rattle.telegram.specs.Read.{byte, notFramed, hasStrayEnd, hasBadSubstitution, frameTests, lengthTests, messageTests, judged, readRefusal, fieldsOf, readAnswer, readFrame, messageRefusal, dataOf, fieldsIn}
 -- both are of the rows, and whoever judges telegrams wants them too
 pub use Rattle.rows.proofs.Laws.{first-false, never-both}
 
@@ -37,6 +37,12 @@ judged-sound (some f) e = cc
 pub judged-unsound : (o : Option Fault) (f : Fault) → Unsound f ≡ judged o → o ≡ some f
 judged-unsound none f e = cc
 judged-unsound (some g) f e = cc
+
+-- what is left to ask of a frame that begins and ends right, with no end byte between
+pub past-2 : (frame : List ℕ) {ends stray : Bool} {bytes : List ℕ} → ends ≡ notFramed frame → ends ≡ false → bytes ≡ between frame
+    → stray ≡ hasStrayEnd bytes → stray ≡ false
+    → firstOf (frameTests frame) ≡ cond (hasBadSubstitution false bytes) (some BadSubstitution) none
+past-2 frame told ends inside found none-found = rw (← told, ends, ← inside, ← found, none-found)
 
 pub or-two : (n : ℕ) (rest : Bool) → (ltb n 2 || rest) ≡ false → 2 ≤ n
 or-two n rest e = go (ltb n 2) refl e

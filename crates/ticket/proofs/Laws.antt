@@ -3,7 +3,7 @@
 use mathlib.Core.Path.{_≡_, refl, sym, ap, _∙_}
 use mathlib.Core.Bool.{Bool, true, false, cond, not, true≢false}
 use mathlib.Core.List.{[], _∷_}
-use mathlib.Core.Logic.{_≢_, _⊎_, inl, inr, ⊎-elim}
+use mathlib.Core.Logic.{_≢_, _⊎_, inl, inr, ⊎-elim, _↔_}
 use mathlib.Core.Option.{Option, some, none}
 use Prim.Native.Nat.{ℕ, zero, suc, _+_, _-_, _%_, _^_, _≤_, _<_}
 use native.Mathlib.Omega.{arith}
@@ -11,7 +11,7 @@ use borrow.Author.Tests.{eqb-true, not-true, not-false, ne-eqb}
 use lib.Dec.{eqb}
 use Rattle.rows.proofs.Settled.{settled}
 use Rattle.rows.specs.Settled.{Settled}
-use Rattle.rows.proofs.Laws.{Decides, decides-le, decides-eq, decides-not, decides-or, decides-and, decides-set, decides-as, ranked, _otherwise_, first-false, numbered}
+use Rattle.rows.proofs.Laws.{Decides, decides-le, decides-eq, decides-not, decides-or, decides-and, decides-set, decides-as, told-true, ranked, _otherwise_, first-false, numbered}
 use Rattle.rows.specs.Rows.{Ranked, Numbered, row, passedUp, raised}
 use Rattle.telegram.specs.declared.Fields.{Fields}
 use Rattle.ticket.specs.Due.{age, IsDue, isDue, TellsDue}
@@ -165,12 +165,12 @@ pub number-is : (f : Fault) (r : ℕ) → Numbers f r → r ≡ faultNumber f
 number-is f r p = p
 
 -- what `is_free` and `is_due` tell, said out
-pub tells-free : (ticket : Ticket) (r : Bool) → TellsFree ticket r → Decides r (ticket .live ≡ false)
-tells-free ticket r p = rw p (decides-free ticket)
+pub tells-free : (ticket : Ticket) (r : Bool) → TellsFree ticket r → (r ≡ true) ↔ (ticket .live ≡ false)
+tells-free ticket r p = (λ e. decides-free ticket .so (sym p ∙ e), λ free. p ∙ told-true (decides-free ticket) free)
 
 pub tells-due : (ticket : Ticket) (clock : ℕ) (r : Bool) → TellsDue ticket clock r
-    → Decides r ((ticket .live ≡ true) × (ticket .asked .wait ≤ age clock (ticket .opened)))
-tells-due ticket clock r p = rw p (decides-due clock ticket)
+    → (r ≡ true) ↔ ((ticket .live ≡ true) × (ticket .asked .wait ≤ age clock (ticket .opened)))
+tells-due ticket clock r p = (λ e. decides-due clock ticket .so (sym p ∙ e), λ due. p ∙ told-true (decides-due clock ticket) due)
 
 -- ---- 01: "Show that any two outcomes allowed by it are equal."
 

@@ -2,6 +2,7 @@ use borrow.Author.Needs.{needs}
 use borrow.Author.Tests.{eq-eqb, ne-eqb}
 use Rattle.request.proofs.judge.Statement.{statement}
 use Rattle.request.specs.Request.{askRefusal}
+use Rattle.request.proofs.Laws.{past-13}
 use Rattle.request.proofs.judge.Tie as tie
 
 returns : tie.Need-returns
@@ -52,34 +53,24 @@ one-to-requires-2 : tie.Need-one-to-requires-2
 one-to-requires-2 c κs = search needs
 
 returns-5 : tie.Need-returns-5
-unfolding askRefusal
 returns-5 c =
-    rw (
-      ne-eqb _ _ (c .before .before .before .before .before .before .before .before .before .if1 .left),
-      ← c .before .before .before .before .before .before .before .one-to .ensures,
-      c .before .before .before .before .before .before .if2 .left,
-      ← c .before .before .before .before .before .is-request .ensures,
-      c .before .before .before .before .if3 .left,
-      ← c .before .before .before .wrong-data .ensures,
-      c .before .before .if4 .left,
-      ← c .before .one-to2 .ensures,
-      c .if5 .taken,
-    )
+    let sized = c .before .before .before in
+    let sorted = sized .before .before in
+    let named = sorted .before .before in
+    let args = named .before .before .before .before .before .args in
+    let past = past-13 (args .asked) (args .«data» .now) (named .before .before .if1 .left) (named .one-to .ensures) (sorted .before .if2 .left)
+    (sorted .is-request .ensures) (sized .before .if3 .left) (sized .wrong-data .ensures) (c .before .before .if4 .left) in
+    rw (past, ← c .before .one-to2 .ensures, c .if5 .taken)
 
 returns-6 : tie.Need-returns-6
-unfolding askRefusal
 returns-6 c =
-    rw (
-      ne-eqb _ _ (c .before .before .before .before .before .before .before .before .before .if1 .left),
-      ← c .before .before .before .before .before .before .before .one-to .ensures,
-      c .before .before .before .before .before .before .if2 .left,
-      ← c .before .before .before .before .before .is-request .ensures,
-      c .before .before .before .before .if3 .left,
-      ← c .before .before .before .wrong-data .ensures,
-      c .before .before .if4 .left,
-      ← c .before .one-to2 .ensures,
-      c .if5 .left,
-    )
+    let sized = c .before .before .before in
+    let sorted = sized .before .before in
+    let named = sorted .before .before in
+    let args = named .before .before .before .before .before .args in
+    let past = past-13 (args .asked) (args .«data» .now) (named .before .before .if1 .left) (named .one-to .ensures) (sorted .before .if2 .left)
+    (sorted .is-request .ensures) (sized .before .if3 .left) (sized .wrong-data .ensures) (c .before .before .if4 .left) in
+    rw (past, ← c .before .one-to2 .ensures, c .if5 .left)
 
 pub judge-spec : {M : Type 1} → statement M
 judge-spec =

@@ -1,7 +1,7 @@
 use mathlib.Core.Path.{sym, _∙_}
 use borrow.Author.Needs.{needs}
 use Rattle.telegram.proofs.reader.framing.Statement.{statement}
-use Rattle.telegram.proofs.Judge.{framed-two}
+use Rattle.telegram.proofs.Judge.{framed-two, past-2}
 use Rattle.telegram.proofs.reader.framing.Tie as tie
 
 not-framed-requires : tie.Need-not-framed-requires
@@ -24,29 +24,19 @@ bad-substitution-requires c κs = search needs
 
 returns-3 : tie.Need-returns-3
 returns-3 c =
-    let not-framed = c .before .before .before .before .before .before .not-framed in
-    rw (
-      ← not-framed .ensures,
-      c .before .before .before .before .before .if1 .left,
-      ← c .before .before .before .before .inside .ensures,
-      ← c .before .before .before .stray-end .ensures,
-      c .before .before .if2 .left,
-      ← c .before .bad-substitution .ensures,
-      c .if3 .taken,
-    )
+    let stray = c .before .before .before in
+    let ends = c .before .before .before .before .before .before in
+    let past = past-2 (ends .before .before .args .frame .now) (ends .not-framed .ensures) (c .before .before .before .before .before .if1 .left) (stray .before .inside .ensures)
+    (stray .stray-end .ensures) (c .before .before .if2 .left) in
+    rw (past, ← c .before .bad-substitution .ensures, c .if3 .taken)
 
 returns-4 : tie.Need-returns-4
 returns-4 c =
-    let not-framed = c .before .before .before .before .before .before .not-framed in
-    rw (
-      ← not-framed .ensures,
-      c .before .before .before .before .before .if1 .left,
-      ← c .before .before .before .before .inside .ensures,
-      ← c .before .before .before .stray-end .ensures,
-      c .before .before .if2 .left,
-      ← c .before .bad-substitution .ensures,
-      c .if3 .left,
-    )
+    let stray = c .before .before .before in
+    let ends = c .before .before .before .before .before .before in
+    let past = past-2 (ends .before .before .args .frame .now) (ends .not-framed .ensures) (c .before .before .before .before .before .if1 .left) (stray .before .inside .ensures)
+    (stray .stray-end .ensures) (c .before .before .if2 .left) in
+    rw (past, ← c .before .bad-substitution .ensures, c .if3 .left)
 
 pub framing-spec : {M : Type 1} → statement M
 framing-spec =
