@@ -14,7 +14,7 @@ use Rattle.lent.proofs.Laws.{length-over}
 use Rattle.telegram.specs.Read.{faultNumber}
 use Rattle.text.proofs.Laws.{decimal-short}
 use Rattle.text.specs.Text.{ascii, newline, decimal, decimalBy}
-use Rattle.lines.specs.Lines.{headerText, longerText, eventText, lineText, totalsText, endingText, Writes}
+use Rattle.lines.specs.Lines.{headerText, eventText, lineText, totalsText, endingText, Writes}
 use Rattle.lines.specs.declared.Event.{Event}
 use Rattle.lines.specs.declared.Event.the-variants.{Read, Refused, Dropped, Open}
 
@@ -46,10 +46,6 @@ ending-short inside start ok refused dropped =
 pub header-short : length headerText ≤ 50
 unfolding headerText
 header-short = omega arith
-
-pub longer-short : length (headerText ++ longerText) ≤ 50
-unfolding headerText longerText
-longer-short = omega arith
 
 -- a text that fits the room stands in it whole
 pub writes-within : (text room : List ℕ) (r most : ℕ) (room′ : List ℕ) → Writes text room r room′ → length text ≤ most → most ≤ length room → r ≤ length room′

@@ -14,10 +14,6 @@ use Rattle.lines.specs.declared.Event.the-variants.{Read, Refused, Dropp
 unfoldable pub headerText : List ℕ
 headerText = ascii "Interbus capture" ++ newline
 
--- "A longer file gives the first line and then `longer than 65536 bytes`."
-unfoldable pub longerText : List ℕ
-longerText = ascii "longer than 65536 bytes" ++ newline
-
 -- a blank and a number
 abbrev pub field : ℕ → List ℕ
 field n = ascii " " ++ decimal n

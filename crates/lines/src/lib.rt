@@ -1,7 +1,6 @@
 // The listing's text, put together from fixed words and decimal numbers. Each piece answers the
 // place behind it, where the next one goes.
-ghost use Rattle.lines.specs.Lines.{Puts, Writes, headerText, longerText, field as fieldText, labelled as labelledText, eventText, lineText, totalsText, endingText};
-ghost use mathlib.Core.List.{_++_};
+ghost use Rattle.lines.specs.Lines.{Puts, Writes, headerText, field as fieldText, labelled as labelledText, eventText, lineText, totalsText, endingText};
 ghost use Prim.Native.Nat.{_+_, _≤_};
 ghost use lib.ListN.{length};
 
@@ -17,20 +16,18 @@ pub enum Event {
     Open,
 }
 
+// A frame's event, and the place of its 13.
+pub struct Placed {
+    pub place: u64,
+    pub event: Event,
+}
+
 // The first line. This call and the others that write text lay it over the room's first bytes, as
 // much of it as there is room for, and answer how long it is. The rest of the room stays.
 pub fn header(room: &mut [u8]) -> usize
     ensures { λ r. ⌜ Writes headerText (now (room .entry)) r (now (room .exit)) ⌝ }
 {
     word(b"Interbus capture\n", room, 0)
-}
-
-// The whole listing of a capture that is longer than 65536 bytes.
-pub fn too_long(room: &mut [u8]) -> usize
-    ensures { λ r. ⌜ Writes (headerText ++ longerText) (now (room .entry)) r (now (room .exit)) ⌝ }
-{
-    let at = word(b"Interbus capture\n", room, 0);
-    word(b"longer than 65536 bytes\n", room, at)
 }
 
 // The line of a frame.

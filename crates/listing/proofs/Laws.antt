@@ -1,123 +1,32 @@
 -- What is promised of the night listing, sentence by sentence.
 -- Assumes nothing.
 use mathlib.Core.Path.{_≡_, refl, sym, ap, ap₂, _∙_}
-use mathlib.Core.Bool.{Bool, true, false, cond, _||_, _&&_, true≢false}
-use mathlib.Core.List.{List, [], _∷_, _++_, append-assoc, append-nil}
+use mathlib.Core.Bool.{Bool, true, false, cond, _||_}
+use mathlib.Core.List.{List, [], _∷_, _++_}
 use mathlib.Core.Logic.{_⊎_, inl, inr, ⊎-elim}
-use Prim.Native.Nat.{ℕ, zero, suc, _+_, _≤_, _<_, _^_}
-use native.Mathlib.Nat.{zero-add, add-zero, le-of-suc-le-suc, not-suc-le-zero}
+use Prim.Native.Nat.{ℕ, zero, suc, _+_, _≤_, _<_}
+use native.Mathlib.Nat.{add-zero, add-suc, le-of-suc-le-suc, not-suc-le-zero}
 use native.Mathlib.Numerals.{add-one}
 use native.Mathlib.Omega.{arith}
-use borrow.Author.Tests.{le-ltb, lt-ltb, eq-eqb, ne-eqb, eqb-true, leb-true}
-use lib.Dec.{eqb, leb}
+use borrow.Author.Tests.{lt-ltb, le-ltb, eq-eqb, eqb-true, leb-true}
+use lib.Dec.{eqb, leb, ltb}
 use lib.ListN.{length, getD, drop, take}
-use Rattle.rows.proofs.Settled.{settled, settled-parts}
-use Rattle.rows.specs.Settled.{Settled}
 use Rattle.telegram.specs.Read.{readFrame}
 use Rattle.telegram.specs.declared.Reading.{Reading}
 use Rattle.lines.specs.declared.Event.{Event}
-use Rattle.lines.specs.declared.Event.the-variants.{Dropped, Open}
-use Rattle.lines.proofs.Laws.{line-short}
-use Rattle.lines.specs.Lines.{headerText, longerText, lineText, endingText}
-use Rattle.listing.specs.declared.Scan.{Scan}
-use Rattle.listing.specs.declared.Stepped.{Stepped}
-use Rattle.listing.specs.Events.{Placed, placed, readEvent, toNextEnd, eventOf, eventsFrom, eventsOf, total, isOk, isRefused, isDropped, isOpen}
-use Rattle.listing.specs.Step.{startScan, here, stepText, textAfter, lastScan, endText, Starts, Steps, readHere}
-use Rattle.listing.proofs.Events.{events-none, Good, Whole, whole, endPlaced, one-kind, lines-append, total-append}
-use Rattle.listing.specs.Listing.{linesText, listingText}
-use Rattle.listing.specs.Places.{In, RisingFrom, Of13, thirteens}
+use Rattle.lines.specs.declared.Event.the-variants.{Refused, Dropped, Open}
+use Rattle.lines.specs.declared.Placed.{Placed}
+use Rattle.telegram.specs.declared.Fault.the-variants.{LongMessage}
 use Rattle.telegram.specs.declared.Reading.the-variants as reading
-
--- ---- 01: "it writes exactly this": the header, the steps' texts from the start over all places, and the end's text
-
-starts-good : (capture : List ℕ) → Good startScan capture
-starts-good capture = record { frame = λ e. absurd (true≢false (sym e)); oks = omega arith; refusals = omega arith; drops = omega arith }
-
-all-steps : (capture : List ℕ) → length capture < 2 ^ 64 → Whole (length capture) startScan capture
-all-steps capture fits = whole (length capture) startScan capture (zero-add (length capture)) fits (starts-good capture)
-
-no-line : linesText [] ≡ []
-unfolding linesText
-no-line = refl
-
-one-line : (e : Placed) → linesText (e ∷ []) ≡ lineText (e .place) (e .event)
-unfolding linesText
-one-line e = append-nil (lineText (e .place) (e .event))
-
-no-total : (counts : Event → ℕ) → total counts [] ≡ 0
-unfolding total
-no-total counts = refl
-
-one-total : (counts : Event → ℕ) (e : Placed) → total counts (e ∷ []) ≡ counts (e .event)
-unfolding total
-one-total counts e = add-zero (counts (e .event))
-
-module _ (capture : List ℕ) (fits : length capture < 2 ^ 64) where
-  events-told : all-steps capture fits .told ++ endPlaced (lastScan capture) ≡ eventsOf capture
-  unfolding eventsOf
-  events-told = all-steps capture fits .joined
-
-  end-lines : (scan : Scan) → linesText (endPlaced scan) ≡ cond (scan .inside) (lineText (scan .start) Open) []
-  end-lines scan = go (scan .inside)
-    where
-      go : (t : Bool) → linesText (cond t (placed (scan .start) Open ∷ []) []) ≡ cond t (lineText (scan .start) Open) []
-      go true = one-line (placed (scan .start) Open)
-      go false = no-line
-
-  end-counts : (counts : Event → ℕ) → counts Open ≡ 0 → (scan : Scan) → total counts (endPlaced scan) ≡ 0
-  end-counts counts e scan = go (scan .inside)
-    where
-      go : (t : Bool) → total counts (cond t (placed (scan .start) Open ∷ []) []) ≡ 0
-      go true = one-total counts (placed (scan .start) Open) ∙ e
-      go false = no-total counts
-
-  counted-all : (counts : Event → ℕ) → counts Open ≡ 0 → {n : ℕ} → n ≡ 0 + total counts (all-steps capture fits .told) → n ≡ total counts (eventsOf capture)
-  counted-all counts e p =
-      p ∙ zero-add (total counts (all-steps capture fits .told)) ∙ sym (add-zero (total counts (all-steps capture fits .told)))
-      ∙ ap (λ (k : ℕ). total counts (all-steps capture fits .told) + k) (sym (end-counts counts e (lastScan capture)))
-      ∙ sym (total-append counts (all-steps capture fits .told) (endPlaced (lastScan capture))) ∙ ap (total counts) events-told
-
-  -- 01: "totals made up (they equal the numbers of such lines)"
-  pub totals-are :
-      (lastScan capture .ok ≡ total isOk (eventsOf capture))
-      × (lastScan capture .refused ≡ total isRefused (eventsOf capture))
-      × (lastScan capture .dropped ≡ total isDropped (eventsOf capture))
-  totals-are =
-      let t = all-steps capture fits .tallied in (
-        counted-all isOk refl (t .0),
-        counted-all isRefused refl (t .1),
-        counted-all isDropped refl (t .2),
-      )
-
-  pub lines-are : textAfter (length capture) startScan capture ++ cond (lastScan capture .inside) (lineText (lastScan capture .start) Open) [] ≡ linesText (eventsOf capture)
-  lines-are =
-      ap₂ (λ (x y : List ℕ). x ++ y) (all-steps capture fits .text-is) (sym (end-lines (lastScan capture)))
-      ∙ sym (lines-append (all-steps capture fits .told) (endPlaced (lastScan capture))) ∙ ap linesText events-told
-
-pub listed : (capture : List ℕ) → length capture ≤ 65536
-    → headerText ++ (textAfter (length capture) startScan capture ++ endText (lastScan capture)) ≡ listingText capture
-unfolding listingText endingText
-listed capture h =
-    rw (le-ltb 65536 (length capture) h)
-    (ap (λ (l : List ℕ). headerText ++ l)
-    (sym (append-assoc (textAfter (length capture) startScan capture) (cond (lastScan capture .inside) (lineText (lastScan capture .start) Open) []) _)
-    ∙ ap₂ (λ (x y : List ℕ). x ++ y) (lines-are capture (omega arith))
-    (rw (totals-are capture (omega arith) .0, totals-are capture (omega arith) .1, totals-are capture (omega arith) .2) refl)))
-
--- 01: "A longer file gives the first line and then `longer than 65536 bytes`."
-pub listed-longer : (capture : List ℕ) → 65536 < length capture → headerText ++ longerText ≡ listingText capture
-unfolding listingText
-listed-longer capture h = rw (lt-ltb 65536 (length capture) h) refl
+use Rattle.listing.specs.Events.{placed, readEvent, frameEvent, toNext, toNextEnd, eventOf, eventsFrom, eventsOf, total, isOk, isRefused, isDropped, isOpen}
+use Rattle.listing.proofs.Events.{events-none, events-cons, one-kind, no-total, one-total, total-append}
+use Rattle.listing.specs.Places.{In, RisingFrom, Of13, thirteens, shifted}
 
 -- ---- each frame of the capture has one line, in order of its place: the events are those of the 13s, at rising places
 
 rising-later : (es : List Placed) (n : ℕ) → RisingFrom (suc n) es → RisingFrom n es
 rising-later [] n r = tt
 rising-later (e ∷ es) n r = let h : suc n ≤ e .place = r .0 in (omega arith, r .1)
-
-events-cons : (from b : ℕ) (rest : List ℕ) → eventsFrom from (b ∷ rest) ≡ cond (eqb b 13) (placed from (eventOf rest) ∷ []) [] ++ eventsFrom (suc from) rest
-unfolding eventsFrom
-events-cons from b rest = refl
 
 rising-from : (xs : List ℕ) (from : ℕ) → RisingFrom from (eventsFrom from xs)
 rising-from [] from = rw (events-none from) tt
@@ -171,16 +80,6 @@ pub every-13 : (capture : List ℕ) (i : ℕ) → i < length capture → getD ca
 unfolding eventsOf
 every-13 capture i h e = every-from capture 0 i h e
 
--- ---- 01: "Bytes outside a frame are passed over."
-
-pub passed-over : (scan : Scan) (capture : List ℕ) → scan .inside ≡ false → (here scan capture ≡ 13 → ⊥) → stepText scan capture ≡ []
-unfolding stepText
-passed-over scan capture o n = rw (o, ne-eqb (here scan capture) 13 n) (go (leb (length capture) (scan .place)))
-  where
-    go : (t : Bool) → _≡_ {A = List ℕ} (cond t [] []) []
-    go true = refl
-    go false = refl
-
 -- ---- ok, refused and dropped, and 1 where one is open, are together the number of 13s
 
 kinds-are : (es : List Placed) → total isOk es + (total isRefused es + (total isDropped es + total isOpen es)) ≡ length es
@@ -207,7 +106,7 @@ unfolding eventsOf
 thirteens-are capture = kinds-are (eventsFrom 0 capture) ∙ as-many capture 0
 
 to-next : (b : ℕ) (rest : List ℕ) → toNextEnd (b ∷ rest) ≡ cond (eqb b 10 || eqb b 13) 0 (suc (toNextEnd rest))
-unfolding toNextEnd
+unfolding toNext
 to-next b rest = refl
 
 -- one is open at most: behind its 13 there is no other
@@ -221,16 +120,39 @@ none-after (b ∷ xs) from h = go (eqb b 10) (eqb b 13) refl refl (none-after xs
     go false true p q ih h = absurd (not-suc-le-zero (rw (p, q) at h))
     go false false p q ih h = events-cons from b xs ∙ rw q (ih (le-of-suc-le-suc (rw (p, q) at h)))
 
+-- ---- 02's #101: "a frame over 494 bytes is refused 5, ahead of numbers 2 to 4"
+
+module _ (frame : List ℕ) where
+  pub too-long : 494 < length frame → Refused LongMessage ≡ frameEvent frame
+  unfolding frameEvent
+  too-long h = rw (lt-ltb 494 (length frame) h) refl
+
+  pub is-read : length frame ≤ 494 → readEvent (readFrame frame 240) ≡ frameEvent frame
+  unfolding frameEvent
+  is-read h = rw (le-ltb 494 (length frame) h) refl
+
+-- a frame that a 10 closed is not open
+pub closed-not-open : (frame : List ℕ) → isOpen (frameEvent frame) ≡ 0
+unfolding frameEvent
+closed-not-open frame = go (ltb 494 (length frame)) (readFrame frame 240)
+  where
+    go : (t : Bool) (r : Reading) → isOpen (cond t (Refused LongMessage) (readEvent r)) ≡ 0
+    go true r = refl
+    go false (reading.Telegram t) = refl
+    go false (reading.Refused f) = refl
+
 open-is : (rest : List ℕ) → (isOpen (eventOf rest) ≡ 0) ⊎ ((isOpen (eventOf rest) ≡ 1) × (length rest ≤ toNextEnd rest))
 unfolding eventOf
-open-is rest = go (leb (length rest) (toNextEnd rest)) (eqb (getD rest (toNextEnd rest) 0) 13) refl (readFrame (13 ∷ take (suc (toNextEnd rest)) rest) 240)
+open-is rest = go (leb (length rest) (toNextEnd rest)) (eqb (getD rest (toNextEnd rest) 0) 13) refl
   where
-    go : (s t : Bool) → leb (length rest) (toNextEnd rest) ≡ s → (r : Reading)
-        → (isOpen (cond s Open (cond t Dropped (readEvent r))) ≡ 0) ⊎ ((isOpen (cond s Open (cond t Dropped (readEvent r))) ≡ 1) × (length rest ≤ toNextEnd rest))
-    go true t p r = inr (refl, leb-true (length rest) (toNextEnd rest) p)
-    go false true p r = inl refl
-    go false false p (reading.Telegram t) = inl refl
-    go false false p (reading.Refused f) = inl refl
+    event : Event
+    event = frameEvent (13 ∷ take (suc (toNextEnd rest)) rest)
+
+    go : (s t : Bool) → leb (length rest) (toNextEnd rest) ≡ s
+        → (isOpen (cond s Open (cond t Dropped event)) ≡ 0) ⊎ ((isOpen (cond s Open (cond t Dropped event)) ≡ 1) × (length rest ≤ toNextEnd rest))
+    go true t p = inr (refl, leb-true (length rest) (toNextEnd rest) p)
+    go false true p = inl refl
+    go false false p = inl (closed-not-open (13 ∷ take (suc (toNextEnd rest)) rest))
 
 open-from : (xs : List ℕ) (from : ℕ) → total isOpen (eventsFrom from xs) ≤ 1
 open-from [] from = rw (events-none from, no-total isOpen) (omega arith)
@@ -248,24 +170,22 @@ pub open-once : (capture : List ℕ) → total isOpen (eventsOf capture) ≤ 1
 unfolding eventsOf
 open-once capture = open-from capture 0
 
--- ---- how much room a step's line takes, for whoever lends it
+-- ---- 02's #101: places from any place on
 
-pub step-short : (scan : Scan) (capture : List ℕ) → length (stepText scan capture) ≤ 150
-unfolding stepText
-step-short scan capture = go (leb (length capture) (scan .place)) (eqb (here scan capture) 13) (scan .inside) (scan .inside && eqb (here scan capture) 10)
+shifted-from : (by from : ℕ) (xs : List ℕ) → eventsFrom (by + from) xs ≡ shifted by (eventsFrom from xs)
+unfolding shifted
+shifted-from by from [] = rw (events-none (by + from), events-none from) refl
+shifted-from by from (b ∷ xs) =
+    let ih : eventsFrom (by + suc from) xs ≡ shifted by (eventsFrom (suc from) xs) = shifted-from by (suc from) xs in
+    rw (events-cons (by + from) b xs, events-cons from b xs) (go (eqb b 13) (rw (add-suc by from) at ih))
   where
-    go : (s t u v : Bool)
-        → length (cond s [] (cond t (cond u (lineText (scan .start) Dropped) []) (cond v (lineText (scan .start) (readHere scan capture)) []))) ≤ 150
-    go true t u v = omega arith
-    go false true true v = line-short (scan .start) Dropped
-    go false true false v = omega arith
-    go false false u true = line-short (scan .start) (readHere scan capture)
-    go false false u false = omega arith
+    go : (t : Bool) → eventsFrom (suc (by + from)) xs ≡ shifted by (eventsFrom (suc from) xs)
+        → cond t (placed (by + from) (eventOf xs) ∷ []) [] ++ eventsFrom (suc (by + from)) xs
+        ≡ shifted by (cond t (placed from (eventOf xs) ∷ []) [] ++ eventsFrom (suc from) xs)
+    go true ih = ap (λ (l : List Placed). placed (by + from) (eventOf xs) ∷ l) ih
+    go false ih = ih
 
--- ---- 01: "Show that any two outcomes allowed by it are equal." Those of the calls that write text alone are in the laws of `lines`.
-
-pub starts-settled : Settled Starts
-starts-settled = settled _
-
-pub steps-settled : (scan : Scan) (capture room : List ℕ) → Settled {A = Stepped × List ℕ} (λ o. Steps scan capture room (o .0) (o .1))
-steps-settled scan capture room = settled-parts (λ (a : Scan) (b : ℕ). record { scan = a; size = b }) (λ r. r .scan) (λ r. r .size) (λ r. refl) (λ a b. (refl, refl)) _ _ _
+-- the events of a capture that begins at a place are those of one that begins at 0, each so much later
+pub from-place : (place : ℕ) (capture : List ℕ) → eventsFrom place capture ≡ shifted place (eventsOf capture)
+unfolding eventsOf
+from-place place capture = ap (λ (p : ℕ). eventsFrom p capture) (sym (add-zero place)) ∙ shifted-from place 0 capture

@@ -1,4 +1,4 @@
-pub mod Looking
+pub mod Next
 pub mod Events
 pub mod Laws
 pub mod Sample

@@ -1,15 +1,17 @@
 -- What a captured line holds: "Bytes outside a frame are passed over. A 13 opens a frame, a second 13 drops it and opens another, a 10 closes
 -- it and it is read." So each 13 has one event, and the next 10 or 13 after it decides which.
 -- Assumes nothing.
-use mathlib.Core.Bool.{cond, _||_}
+use mathlib.Core.Bool.{Bool, cond, _||_}
 use mathlib.Core.List.{List, [], _∷_, _++_}
 use Prim.Native.Nat.{ℕ, suc, _+_}
-use lib.Dec.{eqb, leb}
+use lib.Dec.{eqb, leb, ltb}
 use lib.ListN.{length, getD, take}
 use Rattle.telegram.specs.Read.{readFrame}
+use Rattle.telegram.specs.declared.Fault.the-variants.{LongMessage}
 use Rattle.telegram.specs.declared.Reading.{Reading}
 use Rattle.lines.specs.declared.Event.{Event}
 use Rattle.lines.specs.declared.Event.the-variants.{Read, Refused, Dropped, Open}
+use Rattle.lines.specs.declared.Placed.{Placed}
 use Rattle.telegram.specs.declared.Reading.the-variants as reading
 
 -- "The reader has 240 bytes of room here."
@@ -17,22 +19,28 @@ abbrev pub readEvent : Reading → Event
 readEvent (reading.Telegram t) = Read t
 readEvent (reading.Refused f) = Refused f
 
--- how many bytes stand before the next 10 or 13
-unfoldable pub toNextEnd : List ℕ → ℕ
-toNextEnd [] = 0
-toNextEnd (b ∷ rest) = cond (eqb b 10 || eqb b 13) 0 (suc (toNextEnd rest))
+-- the event of a frame that a 10 closed: 02's #101, "a frame over 494 bytes is refused 5, ahead of numbers 2 to 4"
+unfoldable pub frameEvent : List ℕ → Event
+frameEvent frame = cond (ltb 494 (length frame)) (Refused LongMessage) (readEvent (readFrame frame 240))
+
+-- how many bytes stand before the next one of a kind
+unfoldable pub toNext : (ℕ → Bool) → List ℕ → ℕ
+toNext is [] = 0
+toNext is (b ∷ rest) = cond (is b) 0 (suc (toNext is rest))
+
+abbrev pub isEnd : ℕ → Bool
+isEnd b = eqb b 10 || eqb b 13
+
+abbrev pub toNextEnd : List ℕ → ℕ
+toNextEnd rest = toNext isEnd rest
 
 -- the event of a 13, from what stands after it
 unfoldable pub eventOf : List ℕ → Event
 eventOf rest =
     cond (leb (length rest) (toNextEnd rest)) Open
-    (cond (eqb (getD rest (toNextEnd rest) 0) 13) Dropped (readEvent (readFrame (13 ∷ take (suc (toNextEnd rest)) rest) 240)))
+    (cond (eqb (getD rest (toNextEnd rest) 0) 13) Dropped (frameEvent (13 ∷ take (suc (toNextEnd rest)) rest)))
 
 -- an event and the place of its 13
-pub record Placed : Type 0 where
-  pub place : ℕ
-  pub event : Event
-
 abbrev pub placed : ℕ → Event → Placed
 placed place event = record { place = place; event = event }
 

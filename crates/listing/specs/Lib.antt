@@ -1,4 +1,3 @@
 pub mod Events
 pub mod Listing
 pub mod Places
-pub mod Step

@@ -1,12 +1,10 @@
 -- The whole text of a listing.
 -- Assumes nothing.
-use mathlib.Core.Bool.{cond}
 use mathlib.Core.List.{List, [], _∷_, _++_}
 use Prim.Native.Nat.{ℕ}
-use lib.Dec.{ltb}
-use lib.ListN.{length}
-use Rattle.lines.specs.Lines.{headerText, longerText, lineText, totalsText}
-use Rattle.listing.specs.Events.{Placed, eventsOf, isOk, isRefused, isDropped, total}
+use Rattle.lines.specs.Lines.{headerText, lineText, totalsText}
+use Rattle.lines.specs.declared.Placed.{Placed}
+use Rattle.listing.specs.Events.{eventsOf, isOk, isRefused, isDropped, total}
 
 unfoldable pub linesText : List Placed → List ℕ
 linesText [] = []
@@ -16,6 +14,5 @@ linesText (e ∷ rest) = lineText (e .place) (e .event) ++ linesText rest
 unfoldable pub listingText : List ℕ → List ℕ
 listingText capture =
     headerText
-    ++ cond (ltb 65536 (length capture)) longerText
-    (linesText (eventsOf capture)
+    ++ (linesText (eventsOf capture)
     ++ totalsText (total isOk (eventsOf capture)) (total isRefused (eventsOf capture)) (total isDropped (eventsOf capture)))

@@ -7,7 +7,8 @@ use mathlib.Core.Logic.{_⊎_}
 use Prim.Native.Nat.{ℕ, suc, _+_, _≤_, _<_}
 use lib.Dec.{eqb}
 use lib.ListN.{length, getD, drop}
-use Rattle.listing.specs.Events.{Placed, eventOf}
+use Rattle.lines.specs.declared.Placed.{Placed}
+use Rattle.listing.specs.Events.{placed, eventOf}
 
 -- the event is one of these
 abbrev pub In : Placed → List Placed → Type 0
@@ -27,3 +28,8 @@ Of13 xs from e = (i : ℕ) × (e .place ≡ from + i) × (i < length xs) × (get
 unfoldable pub thirteens : List ℕ → ℕ
 thirteens [] = 0
 thirteens (b ∷ rest) = cond (eqb b 13) 1 0 + thirteens rest
+
+-- the same events, so much later
+unfoldable pub shifted : ℕ → List Placed → List Placed
+shifted by [] = []
+shifted by (e ∷ rest) = placed (by + e .place) (e .event) ∷ shifted by rest

@@ -1,10 +1,20 @@
--- "The night listing": what is promised of a captured line's listing, cited in one place.
+-- "The night listing", and captures that come in chunks: what is promised of a captured line's listing, cited in one place.
 -- Assumes nothing.
 -- ---- "each frame's line is defined": one event for each 13, in order of its place, and nothing else has one
-pub use Rattle.listing.proofs.Laws.{every-13, only-13s, rising, passed-over, open-once}
+pub use Rattle.listing.proofs.Laws.{every-13, only-13s, rising, open-once, too-long, is-read}
+pub use Rattle.receiver.proofs.Laws.{passed-over, kept-most}
+-- "however the bytes were cut, gives the same lines in order and the same open frame at the end as one reading of all bytes joined"
+pub use Rattle.receiver.proofs.Chunks.{same-reading, same-cuts}
+pub use Rattle.listing.proofs.Laws.{from-place}
+-- "60, ahead of all, when a chunk would carry the place past the largest; none of it is taken"
+pub use Rattle.receiver.proofs.Laws.{step-exactly, tests-right, refused-untouched}
+pub use Rattle.lister.proofs.Laws.{list-exactly, list-untouched}
 -- "totals made up (they equal the numbers of such lines)"; ok, refused and dropped, and 1 where one is open, are the number of 13s
-pub use Rattle.listing.proofs.Laws.{totals-are, thirteens-are}
--- the whole text is the definition's: header, the steps' texts, the end's text
-pub use Rattle.listing.proofs.Laws.{lines-are, listed, listed-longer}
--- the paper's own sample, computed
-pub use Rattle.listing.proofs.Sample.{sample}
+pub use Rattle.lister.proofs.Whole.{totals-are}
+pub use Rattle.listing.proofs.Laws.{thirteens-are}
+-- the whole text is the definition's: header, the calls' texts, the end's text
+pub use Rattle.lister.proofs.Whole.{lines-are, listed}
+-- the paper's own sample, computed, and one in chunks
+pub use Rattle.listing.proofs.Sample.{sample, at-limit, over-limit}
+pub use Rattle.receiver.proofs.Sample.{cut}
+pub use Rattle.lister.proofs.Sample.{poured-text, end-text}

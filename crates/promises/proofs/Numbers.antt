@@ -15,6 +15,7 @@ use Rattle.deeds.specs.Deeds.{readDeed, writeDeed, heldDeed}
 use Rattle.bench.specs.Build.{makeRefusal, addRefusal, setRefusal}
 use Rattle.bench.specs.Register.{placeOf}
 use Rattle.bench.specs.Take.{deedOf, replyFor, replyOf, requestRefusal, takeRefusal}
+use Rattle.receiver.specs.Receiver.{next, closing, told, stepFrom, stepRefusal, stepOf}
 use Rattle.promises.specs.Numbers.{allGiven, refusals}
 
 pub every-number : allGiven refusals ≡ true
@@ -22,4 +23,5 @@ unfolding allGiven firstPlace passedFrom substituted framed between restored mes
     hasStrayEnd hasBadSubstitution messageRefusal readRefusal fieldsOf dataOf readFrame sealed writeRefusal sizeOf isSigned isKind
     greatest fits natural bytesOf valueAt elementOf readValue values.readRefusal values.writeRefusal table isFor lineFor catalogue.named findRefusal findEntry
     readDeed writeDeed heldDeed makeRefusal addRefusal setRefusal placeOf deedOf replyFor replyOf requestRefusal takeRefusal
+    next closing told stepFrom stepRefusal stepOf
 every-number = refl

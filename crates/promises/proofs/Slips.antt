@@ -14,12 +14,12 @@ use Rattle.values.specs.Values.{sizeOf, natural, bytesOf}
 use Rattle.deeds.specs.Deeds.{readDeed, writeDeed, heldDeed}
 use Rattle.bench.specs.Register.{placeOf}
 use Rattle.bench.specs.Take.{deedOf, replyFor, replyOf, requestRefusal, takeRefusal, doneTo}
-use Rattle.listing.specs.Events.{toNextEnd, eventOf, eventsFrom, eventsOf, total}
+use Rattle.listing.specs.Events.{toNext, frameEvent, eventOf, eventsFrom, eventsOf, total}
 use Rattle.promises.specs.Slips.{allShow, slips}
 
 pub every-slip : allShow slips ≡ true
 unfolding allShow firstPlace passedFrom substituted framed between restored messageOf timesX timesXs withByte withBytes remainderOf
     askRefusal hasStrayEnd hasBadSubstitution messageRefusal readRefusal fieldsOf dataOf readFrame sealed fitRefusal distanceOf
     givenPlace openRefusal sizeOf natural bytesOf readDeed writeDeed heldDeed placeOf deedOf replyFor replyOf requestRefusal
-    takeRefusal doneTo toNextEnd eventOf eventsFrom eventsOf total
+    takeRefusal doneTo toNext frameEvent eventOf eventsFrom eventsOf total
 every-slip = refl

@@ -20,6 +20,7 @@ use Rattle.bench.specs.Build.{makeRefusal, addRefusal, setRefusal, buildAnswer,
 use Rattle.bench.specs.Register.{noRegister}
 use Rattle.bench.specs.Take.{takeRefusal, takeAnswer, takeTold}
 use Rattle.bench.specs.declared.Bench.{Bench}
+use Rattle.receiver.specs.Receiver.{outsideAt, stepOf, stepTold}
 use Rattle.promises.specs.Slips.{orZero, bench}
 
 pub record Given : Type 0 where
@@ -64,7 +65,11 @@ taking frame room = takeTold (takeAnswer (takeRefusal bench frame room) [])
 abbrev pub fullBench : Bench
 fullBench = record { address = 15; count = 32; registers = replicate 32 noRegister }
 
--- ---- the table: the reader and the writer, the values, the catalogue, and the bench at 15 with register 48, a U8
+-- a receiver at a place, and a chunk
+abbrev pub stepping : ℕ → List ℕ → Option ℕ
+stepping place chunk = stepTold (stepOf (outsideAt place) chunk .answer)
+
+-- ---- the table: the reader and the writer, the values, the catalogue, the bench at 15 with register 48, a U8, and the receiver
 
 abbrev pub refusals : List Given
 refusals =
@@ -125,4 +130,7 @@ refusals =
     ∷ gives (taking (telegramFor 15 162 6 48 []) 8) 0
     ∷ gives (taking (telegramFor 15 162 7 48 []) 8) 0
     ∷ gives (taking (telegramFor 15 162 9 48 []) 8) 0
+    ∷ gives (stepping 18446744073709551614 (13 ∷ 10 ∷ [])) 60
+    ∷ gives (stepping 18446744073709551614 (13 ∷ [])) 0
+    ∷ gives (stepping 18446744073709551615 []) 0
     ∷ []

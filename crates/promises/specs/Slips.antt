@@ -27,7 +27,8 @@ use Rattle.bench.specs.declared.Bench.{Bench}
 use Rattle.telegram.specs.Read.{dataIn}
 use Rattle.lines.specs.declared.Event.{Event}
 use Rattle.lines.specs.declared.Event.the-variants.{Refused}
-use Rattle.listing.specs.Events.{Placed, placed, eventsOf, isOk, isRefused, isDropped, total}
+use Rattle.lines.specs.declared.Placed.{Placed}
+use Rattle.listing.specs.Events.{placed, eventsOf, isOk, isRefused, isDropped, total}
 use Rattle.listing.specs.Listing.{linesText}
 use Rattle.telegram.specs.declared.Fault.the-variants.{ShortMessage}
 use Rattle.promises.specs.Table.{sameBytes}

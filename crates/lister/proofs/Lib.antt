@@ -1,0 +1,4 @@
+pub mod Pouring
+pub mod Laws
+pub mod Whole
+pub mod Sample

@@ -1,0 +1,94 @@
+-- What is promised of the receiver: the laws that callers may cite.
+-- Assumes nothing.
+use mathlib.Core.Path.{_≡_, refl, ap, _∙_}
+use mathlib.Core.Bool.{Bool, true, false, cond, _&&_}
+use mathlib.Core.List.{List, [], _∷_}
+use mathlib.Core.Logic.{⊎-elim}
+use mathlib.Core.Option.{Option, some, none}
+use Prim.Native.Nat.{ℕ, suc, _+_, _≤_}
+use native.Mathlib.Nat.{min-le-left}
+use native.Mathlib.Omega.{arith}
+use borrow.Author.Tests.{lt-ltb}
+use lib.Dec.{eqb, leb, ltb}
+use lib.ListN.{length}
+use Rattle.rows.specs.Rows.{Ranked, passedUp, raised, Numbered}
+use Rattle.rows.specs.Settled.{Settled}
+use Rattle.rows.proofs.Laws.{Decides, decides-lt, ranked, _otherwise_, numbered}
+use Rattle.rows.proofs.Settled.{settled}
+use Rattle.listing.specs.Events.{toNextEnd}
+use Rattle.receiver.specs.declared.Receiver.{Receiver}
+use Rattle.receiver.specs.declared.Fault.{Fault}
+use Rattle.receiver.specs.declared.Fault.the-variants.{PastLargest}
+use Rattle.receiver.specs.declared.Answer.the-variants.{Nothing, Refused}
+use Rattle.receiver.specs.declared.Stepped.{Stepped}
+use Rattle.receiver.specs.Receiver.{largest, passed, next, told, stepped, stepFrom, CarriesPast, stepRows, stepTests, stepRefusal, stepAnswer, stepOf, stepTold, faultNumber}
+use Rattle.receiver.specs.Receiver.{Numbers, Tests, Starts, Steps}
+use Rattle.receiver.specs.Chunks.{insideAt, receiverOf}
+use Rattle.receiver.proofs.Goes.{on-or-end, step-cons, step-none}
+use Rattle.receiver.proofs.Stretches.{told-outside, next-outside}
+
+-- ---- 60: "Each is given exactly when its condition holds"
+
+decides-past : (r : Receiver) (chunk : List ℕ) → Decides (ltb largest (r .place + length chunk)) (CarriesPast r chunk)
+unfolding CarriesPast
+decides-past r chunk = decides-lt largest (r .place + length chunk)
+
+pub step-ranked : (r : Receiver) (chunk : List ℕ) → Ranked (stepRows r chunk) (stepRefusal r chunk)
+unfolding stepRows stepRefusal
+step-ranked r chunk = ranked (stepTests r chunk) (stepRows r chunk) (decides-past r chunk otherwise λ n₆₀. tt)
+
+-- a step over a chunk that is not refused tells no number
+no-number : (r : Receiver) (chunk : List ℕ) → stepTold (stepFrom r chunk .answer) ≡ none
+no-number r [] = rw (step-none r) refl
+no-number r (b ∷ rest) =
+    rw (step-cons r b rest)
+    (⊎-elim (λ p. rw (p .1) (no-number (next r b) rest)) (λ p. rw (p .1) refl) (on-or-end (told r b) (next r b) (stepFrom (next r b) rest)))
+
+pub step-exactly : (r : Receiver) (chunk : List ℕ) {s : Stepped} → Steps r chunk s → Numbered (passedUp faultNumber (stepRows r chunk)) (60 ∷ []) (stepTold (s .answer))
+unfolding stepRows stepOf
+step-exactly r chunk steps =
+    numbered faultNumber (stepRows r chunk) (stepRefusal r chunk) (step-ranked r chunk) (60 ∷ []) refl refl _
+    (ap (λ (s : Stepped). stepTold (s .answer)) steps ∙ by (stepRefusal r chunk))
+  where
+    by : (o : Option Fault) → stepTold (stepAnswer o r (stepFrom r chunk) .answer) ≡ raised faultNumber o
+    by (some f) = refl
+    by none = no-number r chunk
+
+-- and the test beforehand tells whether
+pub tests-right : (r : Receiver) (chunk : List ℕ) {b : Bool} → Tests (r .place) chunk b → Decides b (CarriesPast r chunk)
+tests-right r chunk t = rw t (decides-past r chunk)
+
+-- "none of it is taken"
+pub refused-untouched : (r : Receiver) (chunk : List ℕ) → CarriesPast r chunk → stepOf r chunk ≡ stepped r 0 (Refused PastLargest)
+unfolding CarriesPast stepOf stepRefusal
+refused-untouched r chunk past = rw (lt-ltb largest (r .place + length chunk) past) refl
+
+-- ---- 01: "Bytes outside a frame are passed over."
+
+pub passed-over : (r : Receiver) (b : ℕ) → r .size ≡ 0 → (b ≡ 13 → ⊥) → (told r b ≡ Nothing) × (next r b ≡ passed r)
+passed-over r b out n = (told-outside r b out, next-outside r b out n)
+
+-- ---- no more than 494 bytes of a frame are kept, whatever came
+
+pub kept-most : (place : ℕ) (bytes : List ℕ) → receiverOf place bytes .size ≤ 494
+unfolding receiverOf
+kept-most place [] = omega arith
+kept-most place (b ∷ rest) = go (eqb b 13 && leb (length rest) (toNextEnd rest)) (kept-most (suc place) rest)
+  where
+    go : (t : Bool) → receiverOf (suc place) rest .size ≤ 494 → cond t (insideAt place (b ∷ rest)) (receiverOf (suc place) rest) .size ≤ 494
+    go true ih = min-le-left 494 (suc (length rest))
+    go false ih = ih
+
+-- ---- "Show that any two outcomes allowed by it are equal."
+
+pub numbers-settled : (fault : Fault) → Settled (Numbers fault)
+numbers-settled fault = settled _
+
+pub tests-settled : (place : ℕ) (chunk : List ℕ) → Settled (Tests place chunk)
+tests-settled place chunk = settled _
+
+pub starts-settled : (place : ℕ) → Settled (Starts place)
+starts-settled place = settled _
+
+pub steps-settled : (r : Receiver) (chunk : List ℕ) → Settled (Steps r chunk)
+steps-settled r chunk = settled _

@@ -1,0 +1,8 @@
+pub mod Kept
+pub mod Stretches
+pub mod Returns
+pub mod Goes
+pub mod Same
+pub mod Chunks
+pub mod Laws
+pub mod Sample

@@ -1,0 +1,3 @@
+pub mod Receiver
+pub mod Parts
+pub mod Chunks
