@@ -115,9 +115,13 @@ class Night:
             self.line += self.noise()
 
 
-night = Night(20240613)
-night.line += b"\x00\xff\x55"
-for _ in range(260):
-    night.turn()
-night.line += framed(sealed(15, 200, READ, 0x66))[:5]
-sys.stdout.buffer.write(night.line)
+def capture():
+    night = Night(20240613)
+    night.line += b"\x00\xff\x55"
+    for _ in range(260):
+        night.turn()
+    return night.line + framed(sealed(15, 200, READ, 0x66))[:5]
+
+
+if __name__ == "__main__":
+    sys.stdout.buffer.write(capture())

@@ -65,7 +65,7 @@ def main(folder, crates):
     shown, status = play(folder, ["list"], [("waiting for a capture", b"\x04")])
     same("./list waits and says so", shown.endswith("Interbus capture\nok 0 refused 0 dropped 0\n") and status == 0, (shown, status))
     shown, status = play(folder, ["list"], [("waiting for a capture", b"\x03")])
-    same("^C while it waits: status 130, no listing", status == 130 and "Interbus" not in shown, (shown, status))
+    same("^C while it waits: status 130, no totals", status == 130 and "refused" not in shown, (shown, status))
 
     # each answer comes before the next line is typed
     calls = [("waiting for calls", b"desk.new\n"), ("ok", b"desk.expire 7\n"), ("no 22", b"rem -\n"), ("ok rem=0", b"\x04")]

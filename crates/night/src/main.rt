@@ -1,124 +1,131 @@
-// The night listing of a captured line, from standard input to standard output. The library says
-// what is written; this program adds reading and writing.
+// The night listing of a captured line, from standard input to standard output, as it comes and
+// however long it is. The library says what is written; this program only reads, calls and writes.
 use libc::STDIN_FILENO;
 use libc::STDOUT_FILENO;
-use listing::Scan;
+use lister::Listing;
+use lister::Outcome;
+ghost use Rattle.night.specs.Turns.{Onward};
 ghost use mathlib.Core.Path.{_≡_};
-ghost use Prim.Native.Nat.{_≤_};
+ghost use mathlib.Core.Bool.{true};
+ghost use Prim.Native.Nat.{_≤_, _<_};
 ghost use lib.ListN.{length};
 
-// The longest capture that is listed.
-const LONGEST: usize = 65536;
+// Where the program says how the listing ended, since it has no exit status. It does so once all
+// of the listing was taken, and else not at all.
+const WORD_FILENO: i32 = 3;
 
-// Room for any line, and for the two that may stand at the end.
+// Room for the first line, and for the two that may stand at the end.
 const ROOM: usize = 256;
 
-// What was read: how many bytes, or that a read failed before the input's end was seen.
-struct Input {
-    size: usize,
-    failed: bool,
+// A listing behind some more bytes, and whether it is over: to its end, or where something failed.
+struct Turn {
+    listing: Listing,
+    over: bool,
 }
 
 fn main() {
-    let mut capture = [0u8; LONGEST + 1];
-    let input = gather(&mut capture);
-    let size = input.size;
-    if input.failed {
-        unread();
-        return;
-    }
-    if LONGEST < size {
-        longer();
-        return;
-    }
-    list(&capture[0..size]);
-}
-
-// Reads until the input ends or the capture is full, in whatever pieces the input comes. One byte
-// more than is listed shows that the input is longer.
-fn gather(capture: &mut [u8]) -> Input
-    ensures { λ _. ⌜ length (now (capture .exit)) ≡ length (now (capture .entry)) ⌝ }
-{
-    let mut size: usize = 0;
-    while size < capture.len() {
-        let piece = more(capture, size);
-        if piece.failed {
-            return piece;
-        }
-        if piece.size == 0 {
-            return Input {
-                size,
-                failed: false,
-            };
-        }
-        size += piece.size;
-    }
-    Input {
-        size,
-        failed: false,
+    if header() {
+        let mut piece = io::large_buffer();
+        let mut room = io::large_buffer();
+        capture(&mut piece, &mut room);
     }
 }
 
-// One read, laid behind what is there already. Nothing at the input's end.
-fn more(capture: &mut [u8], size: usize) -> Input
-    ensures { λ r. ⌜ (r .size ≤ 4096) × (length (now (capture .exit)) ≡ length (now (capture .entry))) ⌝ }
+// The first line, and whether all of it was taken. Where a write fails nothing more is written.
+fn header() -> bool {
+    let mut room = [0u8; ROOM];
+    let size = lines::header(&mut room);
+    io::write_all(STDOUT_FILENO, &room[0..size])
+}
+
+// Piece by piece, until it is over. That it ends at last is by the places, which run out.
+fn capture(piece: &mut [u8], room: &mut [u8])
+    requires { ⌜ 150 ≤ length (now room) ⌝ }
 {
-    let mut piece = io::buffer();
-    let got = libc::read(STDIN_FILENO, &mut piece);
+    let mut listing = lister::begin(0);
+    loop {
+        let turn = read_on(listing, piece, room);
+        if turn.over {
+            return;
+        }
+        listing = turn.listing;
+    }
+}
+
+// Reads once and lists what came, so that a capture is listed while it comes.
+fn read_on(listing: Listing, piece: &mut [u8], room: &mut [u8]) -> Turn
+    requires { ⌜ 150 ≤ length (now room) ⌝ }
+    ensures { λ r. ⌜ Onward listing r × (length (now (room .exit)) ≡ length (now (room .entry))) ⌝ }
+{
+    let got = libc::read(STDIN_FILENO, piece);
     if got < 0 {
-        return Input {
-            size: 0,
-            failed: true,
+        return unread(listing);
+    }
+    let n = io::count(got, piece);
+    if n == 0 {
+        return finish(listing);
+    }
+    list(listing, &piece[0..n], room)
+}
+
+// The lines of a piece, a room full at a time, each written at once.
+fn list(listing: Listing, piece: &[u8], room: &mut [u8]) -> Turn
+    requires { ⌜ (150 ≤ length (now room)) × (0 < length (now piece)) ⌝ }
+    ensures { λ r. ⌜ Onward listing r × (length (now (room .exit)) ≡ length (now (room .entry))) ⌝ }
+{
+    let mut so_far = listing;
+    let mut taken = 0;
+    while taken < piece.len() {
+        let listed = lister::list(so_far, &piece[taken..], room);
+        let outcome = listed.outcome;
+        let Outcome::Done = outcome else {
+            return unread(so_far);
         };
+        let size = listed.size;
+        if !io::write_all(STDOUT_FILENO, &room[0..size]) {
+            return over(so_far);
+        }
+        taken += listed.taken;
+        so_far = listed.listing;
     }
-    let n = io::count(got, &piece);
-    lent::lay_at(&piece[..n], capture, size);
-    Input {
-        size: n,
-        failed: false,
+    Turn {
+        listing: so_far,
+        over: false,
     }
 }
 
-fn list(capture: &[u8]) {
-    header();
-    let mut scan = listing::start();
-    let mut i = 0;
-    while i < capture.len() {
-        scan = advance(scan, capture);
-        i += 1;
+// The end of a listing.
+fn finish(listing: Listing) -> Turn
+    ensures { λ r. ⌜ r .over ≡ true ⌝ }
+{
+    let mut room = [0u8; ROOM];
+    let size = lister::finish(listing, &mut room);
+    end(&room[0..size], b"listed\n");
+    over(listing)
+}
+
+// The end of one whose capture could not be read further: what was listed stands, without totals.
+// A capture that has no places left is told so too.
+fn unread(listing: Listing) -> Turn
+    ensures { λ r. ⌜ r .over ≡ true ⌝ }
+{
+    end(b"capture could not be read\n", b"unread\n");
+    over(listing)
+}
+
+// The last of the text, and the word for it once it was taken. That the word is lost needs no
+// telling: whoever waits for it has none.
+fn end(text: &[u8], word: &[u8]) {
+    if io::write_all(STDOUT_FILENO, text) {
+        io::write_all(WORD_FILENO, word);
     }
-    finish(scan);
 }
 
-// A step, and its line where it has one.
-fn advance(scan: Scan, capture: &[u8]) -> Scan {
-    let mut room = [0u8; ROOM];
-    let stepped = listing::step(scan, capture, &mut room);
-    let size = stepped.size;
-    io::write_all(STDOUT_FILENO, &room[0..size]);
-    stepped.scan
-}
-
-fn finish(scan: Scan) {
-    let mut room = [0u8; ROOM];
-    let size = listing::finish(scan, &mut room);
-    io::write_all(STDOUT_FILENO, &room[0..size]);
-}
-
-fn header() {
-    let mut room = [0u8; ROOM];
-    let size = listing::header(&mut room);
-    io::write_all(STDOUT_FILENO, &room[0..size]);
-}
-
-fn longer() {
-    let mut room = [0u8; ROOM];
-    let size = listing::too_long(&mut room);
-    io::write_all(STDOUT_FILENO, &room[0..size]);
-}
-
-// Half a capture is not listed, so that nobody takes it for the whole night.
-fn unread() {
-    header();
-    io::write_all(STDOUT_FILENO, b"capture could not be read\n");
+fn over(listing: Listing) -> Turn
+    ensures { λ r. ⌜ r .over ≡ true ⌝ }
+{
+    Turn {
+        listing,
+        over: true,
+    }
 }

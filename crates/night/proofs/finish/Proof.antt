@@ -1,7 +1,8 @@
 use native.Mathlib.Omega.{arith}
 use borrow.Author.Needs.{needs}
 use Rattle.lines.proofs.Laws.{writes-within, ending-short}
-use Rattle.listing.specs.Step.{endText}
+use Rattle.receiver.specs.Receiver.{isInside}
+use Rattle.lister.specs.Text.{endText}
 use Rattle.night.proofs.finish.Statement.{statement}
 use Rattle.night.proofs.finish.Tie as tie
 
@@ -11,21 +12,27 @@ slice-aggregate-finish c = search needs
 finish-requires : tie.Need-finish-requires
 finish-requires c κs = search needs
 
-sub-write-all : tie.Need-sub-write-all
-sub-write-all c = search needs
+sub-end : tie.Need-sub-end
+sub-end c = search needs
 
-part-write-all-start : tie.Need-part-write-all-start
-part-write-all-start c = search needs
+part-end-start : tie.Need-part-end-start
+part-end-start c = search needs
 
-part-write-all-end : tie.Need-part-write-all-end
-part-write-all-end c =
-    let scan = c .before .before .before .before .args .scan in
-    let short = ending-short (scan .inside) (scan .start) (scan .ok) (scan .refused) (scan .dropped) in
-    let h = writes-within (endText scan) _ _ 250 _ (c .before .before .finish .ensures) short (omega arith) in
+part-end-end : tie.Need-part-end-end
+part-end-end c =
+    let l = c .before .before .before .before .args .listing in
+    let short = ending-short (isInside (l .receiver)) (l .receiver .start) (l .ok) (l .refused) (l .dropped) in
+    let h = writes-within (endText l) _ _ 250 _ (c .before .before .finish .ensures) short (omega arith) in
     search needs
 
-write-all-requires : tie.Need-write-all-requires
-write-all-requires c κs = search needs
+slice-aggregate-end : tie.Need-slice-aggregate-end
+slice-aggregate-end c = search needs
+
+end-requires : tie.Need-end-requires
+end-requires c κs = search needs
+
+over-requires : tie.Need-over-requires
+over-requires c κs = search needs
 
 returns : tie.Need-returns
 returns c = search needs
@@ -36,8 +43,10 @@ finish-spec =
     (tie.spec
     slice-aggregate-finish
     finish-requires
-    sub-write-all
-    part-write-all-start
-    part-write-all-end
-    write-all-requires
+    sub-end
+    part-end-start
+    part-end-end
+    slice-aggregate-end
+    end-requires
+    over-requires
     returns)
