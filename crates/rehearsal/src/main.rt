@@ -6,16 +6,22 @@ use desk::Desk;
 use libc::STDERR_FILENO;
 use libc::STDIN_FILENO;
 use libc::STDOUT_FILENO;
+use lister::Listing;
 use words::Words;
 
 // A line that is longer than this is a bad line.
 const LONGEST: usize = 8192;
+
+// No answer is longer: that of rx.feed has at most 32 bytes, an `at P dropped;`, for each two
+// characters of its line.
+const LONGEST_ANSWER: usize = 16 * LONGEST;
 
 // What the calls so far have made. The bench counts once one was made.
 struct Made {
     desk: Desk,
     bench: Bench,
     has_bench: bool,
+    listing: Listing,
 }
 
 // What is gathered of the line that has not ended yet, how many answers were written, and whether
@@ -36,7 +42,7 @@ struct Said {
 
 fn main() {
     let mut line = [0u8; LONGEST];
-    let mut out = [0u8; 16384];
+    let mut out = [0u8; LONGEST_ANSWER];
     run(&mut line, &mut out);
 }
 
@@ -86,6 +92,7 @@ fn nothing() -> Made {
         desk: desk::fresh(),
         bench: bench,
         has_bench: false,
+        listing: lister::begin(0),
     }
 }
 
@@ -179,7 +186,8 @@ fn answer_to(line: &[u8], gathered: Gathered, out: &mut [u8]) -> Said {
     Said { made: made, at: 0 }
 }
 
-// Which call it is: those on the desk, those on the bench, and those that keep nothing.
+// Which call it is: those on the desk, those on the bench, those on the receiver, and those that
+// keep nothing.
 fn answer(made: Made, line: &[u8], out: &mut [u8]) -> Said {
     let w = words::word(words::start(), line);
     if words::starts(w, line, b"desk.") {
@@ -187,6 +195,9 @@ fn answer(made: Made, line: &[u8], out: &mut [u8]) -> Said {
     }
     if words::starts(w, line, b"bench.") {
         return answer_bench(made, w, line, out);
+    }
+    if words::starts(w, line, b"rx.") {
+        return answer_rx(made, w, line, out);
     }
     Said {
         made: made,
@@ -216,6 +227,18 @@ fn answer_bench(made: Made, w: Words, line: &[u8], out: &mut [u8]) -> Said {
     Said {
         made: next,
         at: shown.at,
+    }
+}
+
+fn answer_rx(made: Made, w: Words, line: &[u8], out: &mut [u8]) -> Said {
+    let before = made.listing;
+    let heard = receiver_calls::answer(before, w, line, out);
+    let after = heard.listing;
+    let mut next = made;
+    next.listing = after;
+    Said {
+        made: next,
+        at: heard.at,
     }
 }
 
