@@ -1,8 +1,9 @@
-//! Call scripts: a line is parsed, run on the desk or the bench, and its answer formatted.
+//! Call scripts: a line is parsed, run on the desk, the bench or the receiver, and its answer formatted.
 
 use crate::bench::{Bench, Register};
 use crate::catalogue;
 use crate::desk::{Desk, Request, Ticket};
+use crate::receiver::{Fed, Receiver};
 use crate::remainder::remainder;
 use crate::telegram::{self, Message, No};
 use crate::values;
@@ -28,6 +29,9 @@ enum Call {
     DeskCancel { job: u32, address: u8 },
     DeskExpire { clock: u32 },
     DeskDump,
+    RxNew { place: u64 },
+    RxFeed { chunk: Vec<u8> },
+    RxEnd,
 }
 
 /// A call that needs a bench.
@@ -62,8 +66,8 @@ impl<'a> Words<'a> {
         u32::try_from(decimal(self.word()?)?).ok()
     }
 
-    /// The next word as a 64-bit element number.
-    fn index(&mut self) -> Option<u64> {
+    /// The next word as a 64-bit number: an element's, or a place.
+    fn long_number(&mut self) -> Option<u64> {
         u64::try_from(decimal(self.word()?)?).ok()
     }
 
@@ -138,7 +142,7 @@ fn parse_call(name: &[u8], words: &mut Words) -> Option<Call> {
         b"rem" => Call::Rem { bytes: words.bytes()? },
         b"read" => Call::Read { frame: words.bytes()?, buf: words.bytes()? },
         b"write" => Call::Write { message: parse_message(words)?, buf: words.bytes()? },
-        b"val.get" => Call::ValGet { kind: words.byte()?, bytes: words.bytes()?, index: words.index()? },
+        b"val.get" => Call::ValGet { kind: words.byte()?, bytes: words.bytes()?, index: words.long_number()? },
         b"val.put" => Call::ValPut { kind: words.byte()?, value: words.value()?, buf: words.bytes()? },
         b"cat" => Call::Cat { type_no: words.byte()?, register: words.byte()? },
         b"bench.new" => Call::BenchNew { address: words.byte()? },
@@ -154,6 +158,9 @@ fn parse_call(name: &[u8], words: &mut Words) -> Option<Call> {
         b"desk.cancel" => parse_cancel(words)?,
         b"desk.expire" => Call::DeskExpire { clock: words.number()? },
         b"desk.dump" => Call::DeskDump,
+        b"rx.new" => Call::RxNew { place: words.long_number()? },
+        b"rx.feed" => Call::RxFeed { chunk: words.bytes()? },
+        b"rx.end" => Call::RxEnd,
         _ => return None,
     })
 }
@@ -177,16 +184,17 @@ fn parse_cancel(words: &mut Words) -> Option<Call> {
     Some(Call::DeskCancel { job, address })
 }
 
-/// What the calls work on: the desk, and the bench once there is one.
+/// What the calls work on: the desk, the bench once there is one, and the receiver.
 pub struct Rehearsal {
     pub desk: Desk,
     pub bench: Option<Bench>,
+    pub receiver: Receiver,
 }
 
 impl Rehearsal {
-    /// A fresh desk and no bench.
+    /// A fresh desk, no bench, and a fresh receiver at place 0.
     pub fn new() -> Rehearsal {
-        Rehearsal { desk: Desk::new(), bench: None }
+        Rehearsal { desk: Desk::new(), bench: None, receiver: Receiver::new(0) }
     }
 
     /// The answer line to a call line, both without their newline.
@@ -223,6 +231,9 @@ impl Rehearsal {
             }
             Call::DeskExpire { clock } => plain(self.desk.expire(clock).map(closed_fields)),
             Call::DeskDump => plain(Ok(desk_fields(&self.desk))),
+            Call::RxNew { place } => plain(Ok(self.new_receiver(place))),
+            Call::RxFeed { chunk } => fed(self.receiver.feed(&chunk)),
+            Call::RxEnd => plain(Ok(format!("text={}", self.receiver.rest().replace('\n', "\\n")))),
         }
     }
 
@@ -235,6 +246,12 @@ impl Rehearsal {
     /// A fresh desk takes the place of the one there was; no fields are answered.
     fn new_desk(&mut self) -> String {
         self.desk = Desk::new();
+        String::new()
+    }
+
+    /// A fresh receiver takes the place of the one there was; no fields are answered.
+    fn new_receiver(&mut self, place: u64) -> String {
+        self.receiver = Receiver::new(place);
         String::new()
     }
 }
@@ -265,6 +282,15 @@ fn lent(mut buf: Vec<u8>, call: impl FnOnce(usize) -> Result<(String, Vec<u8>), 
         buf[..bytes.len()].copy_from_slice(bytes);
     }
     format!("{} buf={}", plain(result.map(|(fields, _)| fields)), hex(&buf))
+}
+
+/// The lines of a chunk, parted by semicolons; a refusal also tells how many bytes were taken before it.
+fn fed(fed: Fed) -> String {
+    let lines = fed.lines.join(";");
+    match fed.refusal {
+        None => format!("ok lines={lines}"),
+        Some(no) => format!("no {no} taken={} lines={lines}", fed.taken),
+    }
 }
 
 /// The fields of a message that was read, and its data for the buffer.

@@ -2,9 +2,9 @@
 
 use crate::bench::Bench;
 use crate::desk::{Desk, Request};
-use crate::faults::{damage, data, flip_within_16, message, spoil, tiny};
+use crate::faults::{all_substituted, damage, data, flip_within_16, frame_of, longest, message, runaway, spoil, tiny};
 use crate::random::Random;
-use crate::telegram::{frame, Message, No, END, MOST_DATA, START};
+use crate::telegram::{frame, Message, No, END, LONGEST_TELEGRAM, MOST_DATA, START};
 use crate::values::KINDS;
 
 /// The addresses of the four rigs' modules; two of them are bytes that are substituted.
@@ -25,14 +25,27 @@ type Piece = fn(&mut Line) -> Vec<u8>;
 /// All pieces, the right traffic most often.
 const ANY: [Piece; 10] = [exchange, exchange, exchange, noise, other_message, damaged, spoiled, cut, too_long, starts];
 
-/// The capture of a seed. Neighbouring seeds give each sort, and each length around 65536, in turn.
+/// The pieces of an ordinary night.
+const NIGHT: [Piece; 8] = [exchange, exchange, exchange, exchange, exchange, exchange, noise, cut];
+/// So many neighbouring seeds give each sort of capture.
+const SORTS: u64 = 17;
+
+impl Line {
+    /// The line of this seed, before any traffic.
+    fn new(seed: u64) -> Line {
+        let rigs = RIGS.iter().filter_map(|own| rig(*own)).collect();
+        Line { random: Random::new(seed), desk: Desk::new(), rigs }
+    }
+}
+
+/// The capture of a seed. Neighbouring seeds give each sort in turn: all that goes wrong on a line, lengths around
+/// 65536, frames around 494 bytes, runaways with each end they may come to, and a long night.
 pub fn capture(seed: u64) -> Vec<u8> {
-    let mut line =
-        Line { random: Random::new(seed), desk: Desk::new(), rigs: RIGS.iter().filter_map(|own| rig(*own)).collect() };
+    let mut line = Line::new(seed);
     let short = line.random.between(20, 3000);
     let around = line.random.between(65400, 65700);
-    match seed % 12 {
-        0 if seed % 24 == 0 => Vec::new(),
+    match seed % SORTS {
+        0 if seed % (2 * SORTS) == 0 => Vec::new(),
         0 => tiny(&mut line.random),
         1 => record(&mut line, &[noise], short),
         2 => record(&mut line, &[exchange], short),
@@ -44,7 +57,35 @@ pub fn capture(seed: u64) -> Vec<u8> {
         8 => record(&mut line, &ANY, 65535),
         9 => record(&mut line, &ANY, 65536),
         10 => record(&mut line, &ANY, 65537),
-        _ => record(&mut line, &ANY, around),
+        11 => record(&mut line, &ANY, around),
+        12 => record(&mut line, &[near_limit, exchange], 10_000 + short),
+        13 => ended_runaway(&mut line, short, 100_000 + short, END),
+        14 => ended_runaway(&mut line, short, 100_000 + short, START),
+        15 => open_runaway(&mut line, short, 100_000 + short),
+        _ => record(&mut line, &NIGHT, 300_000 + short),
+    }
+}
+
+/// A short capture of any of those sorts, scaled down as far as they go.
+pub fn short(seed: u64) -> Vec<u8> {
+    let mut line = Line::new(seed);
+    let few = line.random.between(1, 39);
+    let some = line.random.between(40, 300);
+    let many = LONGEST_TELEGRAM - 1 + line.random.pick(&[0, 1, 2, 3, 50, 200]);
+    match line.random.below(15) {
+        0 => tiny(&mut line.random),
+        1 => record(&mut line, &[noise], few),
+        2 | 3 => record(&mut line, &[exchange], few),
+        4 => record(&mut line, &[starts, exchange], few),
+        5 => record(&mut line, &ANY, few),
+        6 => record(&mut line, &[damaged, spoiled, exchange], some),
+        7 => record(&mut line, &[cut, exchange], some),
+        8 => record(&mut line, &NIGHT, some),
+        9 => record(&mut line, &ANY, some),
+        10 | 11 => [near_limit(&mut line), exchange(&mut line)].concat(),
+        12 => ended_runaway(&mut line, few, many, END),
+        13 => ended_runaway(&mut line, few, many, START),
+        _ => open_runaway(&mut line, few, many),
     }
 }
 
@@ -69,6 +110,21 @@ fn record(line: &mut Line, pieces: &[Piece], length: usize) -> Vec<u8> {
         record[length - 1] = line.random.pick(&[START, END]);
     }
     record
+}
+
+/// So much traffic, and a frame that runs on for so many bytes and has come to no end.
+fn open_runaway(line: &mut Line, traffic: usize, length: usize) -> Vec<u8> {
+    let mut capture = record(line, &ANY, traffic);
+    capture.extend(runaway(&mut line.random, length));
+    capture
+}
+
+/// The same, the frame closed by a 10 or dropped by a second 13, and as much traffic after it.
+fn ended_runaway(line: &mut Line, traffic: usize, length: usize, mark: u8) -> Vec<u8> {
+    let mut capture = open_runaway(line, traffic, length);
+    capture.push(mark);
+    capture.extend(record(line, &ANY, traffic));
+    capture
 }
 
 /// A request to one of the rigs and its reply; now and then the reply is lost and the ticket cancelled.
@@ -138,6 +194,17 @@ fn too_long(line: &mut Line) -> Vec<u8> {
     let length = line.random.pick(&[241, 486, 488, 490, 600, 2000]);
     let data = data(&mut line.random, length);
     Message { data, ..message(&mut line.random) }.telegram()
+}
+
+/// A frame of the most bytes that are read, one less or one more.
+fn near_limit(line: &mut Line) -> Vec<u8> {
+    match line.random.below(8) {
+        0 => longest().telegram(),
+        1 => all_substituted().telegram(),
+        2 => frame_of(&mut line.random, LONGEST_TELEGRAM - 1),
+        3 | 4 => frame_of(&mut line.random, LONGEST_TELEGRAM),
+        _ => frame_of(&mut line.random, LONGEST_TELEGRAM + 1),
+    }
 }
 
 /// Many starts, now and then an end or a byte between them.

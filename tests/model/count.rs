@@ -5,7 +5,7 @@ use crate::telegram::No;
 use std::collections::BTreeMap;
 
 /// Each call with the numbers its order lists.
-const ORDERS: [(&str, &[No]); 17] = [
+const ORDERS: [(&str, &[No]); 20] = [
     ("rem", &[]),
     ("read", &[1, 2, 3, 4, 5, 6, 7, 8, 9]),
     ("write", &[5, 8, 9, 6]),
@@ -23,7 +23,12 @@ const ORDERS: [(&str, &[No]); 17] = [
     ("desk.cancel", &[21]),
     ("desk.expire", &[22]),
     ("desk.dump", &[]),
+    ("rx.new", &[]),
+    ("rx.feed", &[60]),
+    ("rx.end", &[]),
 ];
+/// The lines that must also have been said of frames which lie in more than one chunk.
+const OVER_BORDERS: [&str; 4] = ["ok", "refused 5", "dropped", "open"];
 /// Stands for a line that begins with the name of no call.
 const NO_CALL: &str = "(no call)";
 
@@ -68,11 +73,63 @@ pub fn count(script: &[u8], answers: &[u8]) -> (String, bool) {
     let mut complaints: Vec<String> = ORDERS.iter().flat_map(|(name, order)| missing(&counts, name, order)).collect();
     complaints
         .extend(counts.keys().filter(|(name, way)| !is_listed(name, *way)).map(|(name, way)| unlisted(name, *way)));
+    let over_borders = Chunks::of(&calls, &answers).times;
+    let never = OVER_BORDERS.iter().zip(over_borders).filter(|(_, times)| *times == 0);
+    complaints.extend(never.map(|(line, _)| format!("over chunk borders: {line} never occurred")));
     if calls.len() != answers.len() {
         complaints.push(format!("{} calls but {} answers", calls.len(), answers.len()));
     }
     let told: String = complaints.iter().map(|line| format!("{line}\n")).collect();
-    (table(&counts) + &told, complaints.is_empty())
+    (table(&counts) + &borders_line(over_borders) + &told, complaints.is_empty())
+}
+
+/// What calls and answers tell of the chunks: the place of the next byte, where the latest chunk of any bytes began,
+/// and how often each of those lines was said of a frame from before it.
+#[derive(Default)]
+struct Chunks {
+    next: u64,
+    chunk: u64,
+    times: [usize; OVER_BORDERS.len()],
+}
+
+impl Chunks {
+    /// The chunks of a whole script.
+    fn of(calls: &[&[u8]], answers: &[&[u8]]) -> Chunks {
+        let mut chunks = Chunks::default();
+        for (call, answer) in calls.iter().zip(answers) {
+            chunks.hear(&String::from_utf8_lossy(call), &String::from_utf8_lossy(answer));
+        }
+        chunks
+    }
+
+    /// Hears of a call and its answer; only an accepted call on the receiver has something to tell.
+    fn hear(&mut self, call: &str, answer: &str) {
+        let (name, word) = call.split_once(' ').unwrap_or((call, ""));
+        match (name, answer.split_once('=').unwrap_or((answer, ""))) {
+            ("rx.new", ("ok", _)) => {
+                self.next = word.parse().unwrap_or(0);
+                self.chunk = self.next;
+            }
+            ("rx.feed", ("ok lines", lines)) => {
+                if word != "-" {
+                    self.chunk = self.next;
+                    self.next += word.len() as u64 / 2;
+                }
+                lines.split(';').for_each(|line| self.count(line));
+            }
+            ("rx.end", ("ok text", text)) => text.split("\\n").for_each(|line| self.count(line)),
+            _ => (),
+        }
+    }
+
+    /// Counts a line that is one of those, its frame begun before the chunk.
+    fn count(&mut self, line: &str) {
+        let (place, said) = line.strip_prefix("at ").and_then(|rest| rest.split_once(' ')).unwrap_or_default();
+        let is_before = place.parse().map_or(false, |place: u64| place < self.chunk);
+        if let Some(sort) = OVER_BORDERS.iter().position(|sort| is_before && said.starts_with(sort)) {
+            self.times[sort] += 1;
+        }
+    }
 }
 
 /// What should have occurred for a call and never did.
@@ -119,6 +176,12 @@ fn table(counts: &Counts) -> String {
         text += &format!("{name:<12}{ok:>7}{bad_line:>10}{no_bench:>10}{}\n", refusals(counts, name));
     }
     text
+}
+
+/// The line below the table: how often each of the lines over chunk borders occurred.
+fn borders_line(times: [usize; OVER_BORDERS.len()]) -> String {
+    let each: String = OVER_BORDERS.iter().zip(times).map(|(line, times)| format!("  {line}:{times}")).collect();
+    format!("over chunk borders{each}\n")
 }
 
 /// The refusal numbers of a call with their counts, by rising number.

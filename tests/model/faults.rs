@@ -53,6 +53,13 @@ pub fn longest() -> Message {
     Message { dest: END, source: END, type_no: 9, register: SUBSTITUTION, data }
 }
 
+/// The same with a type that is substituted too: its frame has 494 bytes, the most there can be, and is refused 9.
+pub fn all_substituted() -> Message {
+    let mut data = vec![SUBSTITUTION; MOST_DATA];
+    data[9] = END;
+    Message { type_no: SUBSTITUTION, data, ..longest() }
+}
+
 /// The message with another register, so that a remainder byte is substituted where one is found.
 fn with_special_remainder(random: &mut Random, mut message: Message) -> Message {
     for _ in 0..200 {
@@ -209,6 +216,40 @@ fn spoil_a_pair(random: &mut Random, frame: &mut Vec<u8>) {
         1 => drop(frame.splice(place..place + 2, [frame[place + 1] - 64])),
         _ => frame[place + 1] = random.byte(),
     }
+}
+
+/// A frame's start and bytes after it without another mark, so many in all.
+pub fn runaway(random: &mut Random, length: usize) -> Vec<u8> {
+    let unmarked = |byte| if [START, END].contains(&byte) { SUBSTITUTION } else { byte };
+    [START].into_iter().chain(random.bytes(length - 1).into_iter().map(unmarked)).collect()
+}
+
+/// A frame of so many bytes, both ends included, with nothing but 94 between them: the reader says 3, however long it
+/// is, and also where bytes of it are lost.
+pub fn wrong_frame(length: usize) -> Vec<u8> {
+    [vec![START], vec![SUBSTITUTION; length - 2], vec![END]].concat()
+}
+
+/// A frame of so many bytes, both ends included: of any bytes, of row 3's faults, or of substituted pairs.
+pub fn frame_of(random: &mut Random, length: usize) -> Vec<u8> {
+    match random.below(3) {
+        0 => [runaway(random, length - 1), vec![END]].concat(),
+        1 => wrong_frame(length),
+        _ => frame_of_pairs(random, length),
+    }
+}
+
+/// A frame of so many bytes, every byte of its message substituted; where the length is odd, all but the type.
+fn frame_of_pairs(random: &mut Random, length: usize) -> Vec<u8> {
+    let mut frame = vec![START];
+    for _ in 0..(length - 2) / 2 {
+        frame.extend([SUBSTITUTION, random.pick(&CODES)]);
+    }
+    if length % 2 == 1 {
+        frame.insert(5, random.below(10) as u8);
+    }
+    frame.push(END);
+    frame
 }
 
 /// A frame of a few bytes, most of them marks.

@@ -4,11 +4,14 @@ mod bench;
 mod calls;
 mod capture;
 mod catalogue;
+mod chunks;
 mod count;
+mod cuts;
 mod desk;
 mod faults;
 mod listing;
 mod random;
+mod receiver;
 mod remainder;
 mod script;
 mod telegram;
@@ -18,7 +21,8 @@ mod vectors;
 use std::io::{self, Read, Write};
 use std::process::ExitCode;
 
-const USAGE: &str = "usage: model answer | script SEED CALLS | count SCRIPT ANSWERS | list | capture SEED | vectors";
+const USAGE: &str = "usage: model answer | script SEED CALLS | count SCRIPT ANSWERS | cuts | list | capture SEED | \
+chunks SEED CAPTURES | vectors";
 
 /// 0 when all is well, 1 when a check fails, 2 when the command can't be carried out.
 fn main() -> ExitCode {
@@ -42,8 +46,13 @@ fn run(words: &[&str]) -> io::Result<bool> {
             let (table, complete) = count::count(&std::fs::read(script)?, &std::fs::read(answers)?);
             put(table, complete)
         }
+        ["cuts"] => put(cuts::script(), true),
         ["list"] => put(listing::list(&input()?), true),
         ["capture", seed] => put(capture::capture(number(seed)?), true),
+        ["chunks", seed, captures] => {
+            let (report, no_difference) = chunks::report(number(seed)?, number(captures)?);
+            put(report, no_difference)
+        }
         ["vectors"] => {
             let (report, all_hold) = vectors::report();
             put(report, all_hold)
@@ -65,7 +74,7 @@ fn put(bytes: impl AsRef<[u8]>, verdict: bool) -> io::Result<bool> {
     Ok(verdict)
 }
 
-/// A seed or a number of calls.
+/// A seed, or a number of calls or captures.
 fn number(word: &str) -> io::Result<u64> {
     word.parse().map_err(|_| io::Error::new(io::ErrorKind::Other, USAGE))
 }

@@ -3,21 +3,25 @@
 mod bench_walk;
 mod desk_walk;
 mod numbers;
+mod receiver_walk;
 mod rough;
 mod telegrams;
 
 use crate::calls::Rehearsal;
 use crate::random::Random;
 
-/// A script under way: its lines and the desk and bench they have led to.
+/// A script under way: its lines and the desk, bench and receiver they have led to.
 pub struct Script {
     random: Random,
     rehearsal: Rehearsal,
     lines: Vec<Vec<u8>>,
 }
 
+/// A part of a script.
+type Section = fn(&mut Script);
+
 /// One round of sections; a script is made of rounds, each in another order.
-const ROUND: [fn(&mut Script); 17] = [
+const ROUND: [Section; 17] = [
     rough::any_numbers,
     rough::bad_lines,
     telegrams::remainders,
@@ -37,21 +41,40 @@ const ROUND: [fn(&mut Script); 17] = [
     desk_walk::mixed,
 ];
 
+/// The sections on the receiver, after each round. They have a generator of their own, so that a seed's other lines are
+/// what they were without them.
+const RECEIVER_ROUND: [Section; 5] = [
+    rough::receiver_lines,
+    receiver_walk::captures,
+    receiver_walk::around_the_limit,
+    receiver_walk::runaways,
+    receiver_walk::last_places,
+];
+
 /// The script of a seed, of so many lines, each ended by one newline.
 pub fn write(seed: u64, calls: usize) -> Vec<u8> {
     let mut script = Script { random: Random::new(seed), rehearsal: Rehearsal::new(), lines: Vec::new() };
     bench_walk::no_bench_yet(&mut script);
     desk_walk::no_desk_yet(&mut script);
+    receiver_walk::no_receiver_yet(&mut script);
+    let mut receiver_random = Random::new(!seed);
     while script.lines.len() < calls {
-        let mut round = ROUND;
-        script.random.shuffle(&mut round);
-        round.iter().for_each(|section| section(&mut script));
+        script.round(ROUND);
+        std::mem::swap(&mut script.random, &mut receiver_random);
+        script.round(RECEIVER_ROUND);
+        std::mem::swap(&mut script.random, &mut receiver_random);
     }
     script.lines.truncate(calls);
     script.lines.iter().flat_map(|line| [line.as_slice(), b"\n"].concat()).collect()
 }
 
 impl Script {
+    /// Adds these sections in a random order.
+    fn round<const N: usize>(&mut self, mut sections: [Section; N]) {
+        self.random.shuffle(&mut sections);
+        sections.iter().for_each(|section| section(self));
+    }
+
     /// Adds a call line to the script and runs it on the rehearsal.
     fn call(&mut self, line: impl AsRef<[u8]>) {
         self.rehearsal.answer(line.as_ref());

@@ -12,6 +12,8 @@ pub const SUBSTITUTION: u8 = 94;
 pub const CODES: [u8; 3] = [74, 77, 158];
 /// The most data bytes of a message; also the room of the bench and of the listing.
 pub const MOST_DATA: usize = 240;
+/// The most bytes of a telegram, both ends included.
+pub const LONGEST_TELEGRAM: usize = 494;
 
 /// A message without its remainder.
 #[derive(Clone)]

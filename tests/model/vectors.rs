@@ -2,6 +2,7 @@
 
 use crate::bench::Bench;
 use crate::calls::{answers, hex};
+use crate::faults::{all_substituted, longest, wrong_frame};
 use crate::listing::list;
 use crate::telegram::{frame, Message};
 
@@ -40,7 +41,21 @@ ok kind=3 write=1 lo=0 hi=65535
 no 34
 ";
 
-const SAMPLE_CAPTURE: [u8; 12] = [0x0D, 0xA2, 0x0F, 0x03, 0x30, 0x48, 0x2F, 0x0A, 0x0D, 0x0A, 0x0D, 0x05];
+const RECEIVER_CALLS: &str = "\
+rx.new 0
+rx.feed 0da20f030d
+rx.feed 30482f0a0d
+rx.end
+";
+
+const RECEIVER_ANSWERS: &str = "\
+ok
+ok lines=at 0 dropped
+ok lines=at 4 refused 4
+ok text=at 9 open\\nok 0 refused 1 dropped 1\\n
+";
+
+pub const SAMPLE_CAPTURE: [u8; 12] = [0x0D, 0xA2, 0x0F, 0x03, 0x30, 0x48, 0x2F, 0x0A, 0x0D, 0x0A, 0x0D, 0x05];
 
 const SAMPLE_LISTING: &str = "\
 Interbus capture
@@ -53,7 +68,10 @@ ok 1 refused 1 dropped 0
 /// One line for each check, and whether all of them hold.
 pub fn report() -> (String, bool) {
     let checks: Vec<Check> =
-        [table_facts(), manual_examples(), both_sides(), listings()].into_iter().flatten().collect();
+        [table_facts(), manual_examples(), both_sides(), listings(), long_frames(), receivers(), last_places()]
+            .into_iter()
+            .flatten()
+            .collect();
     (checks.iter().map(line).collect(), checks.iter().all(holds))
 }
 
@@ -170,7 +188,6 @@ fn both_sides() -> Vec<Check> {
 
 /// The sample listing, and the listings the readings name.
 fn listings() -> Vec<Check> {
-    let longer = "Interbus capture\nlonger than 65536 bytes\n";
     let nothing = "Interbus capture\nok 0 refused 0 dropped 0\n";
     let dropped = "Interbus capture\nat 0 dropped\nat 1 refused 4\nok 0 refused 1 dropped 1\n";
     vec![
@@ -178,6 +195,83 @@ fn listings() -> Vec<Check> {
         Check { name: "an empty capture", got: list(&[]), want: nothing.to_string() },
         Check { name: "0D 0D 0A", got: list(&[13, 13, 10]), want: dropped.to_string() },
         Check { name: "65536 bytes", got: list(&[10; 65536]), want: nothing.to_string() },
-        Check { name: "65537 bytes", got: list(&[10; 65537]), want: longer.to_string() },
+        Check { name: "65537 bytes", got: list(&[10; 65537]), want: nothing.to_string() },
+    ]
+}
+
+/// Both sides of the 494 bytes, runaways, and the frame reader, which keeps its order.
+fn long_frames() -> Vec<Check> {
+    let listed = |name, capture: &[u8], want: &str| Check {
+        name,
+        got: list(capture),
+        want: format!("Interbus capture\n{want}\n"),
+    };
+    let (most, over, runaway) = (wrong_frame(494), wrong_frame(495), &wrong_frame(501)[..500]);
+    let dropped = [runaway, &[13, 10]].concat();
+    vec![
+        listed("493 bytes are read", &longest().telegram(), "at 0 ok 10 10 9 94 240\nok 1 refused 0 dropped 0"),
+        listed("494 bytes are read", &all_substituted().telegram(), "at 0 refused 9\nok 0 refused 1 dropped 0"),
+        listed("494 bytes with a fault of 3", &most, "at 0 refused 3\nok 0 refused 1 dropped 0"),
+        listed("495 bytes with a fault of 3", &over, "at 0 refused 5\nok 0 refused 1 dropped 0"),
+        listed("a runaway is open", runaway, "at 0 open\nok 0 refused 0 dropped 0"),
+        listed("a runaway is dropped", &dropped, "at 0 dropped\nat 500 refused 4\nok 0 refused 1 dropped 1"),
+        calls("the frame reader keeps its order", &format!("read {} a1", hex(&over)), "no 3 buf=a1"),
+    ]
+}
+
+/// The receiver's part of the call scripts' example, the sample capture byte by byte, the 494 bytes and a runaway in
+/// chunks.
+fn receivers() -> Vec<Check> {
+    let each = |bytes: &[u8]| bytes.iter().map(|byte| format!("rx.feed {}\n", hex(&[*byte]))).collect::<String>();
+    let in_two = |bytes: &[u8]| format!("rx.feed {}\nrx.feed {}\n", hex(&bytes[..493]), hex(&bytes[493..]));
+    vec![
+        calls("the receiver's example", RECEIVER_CALLS, RECEIVER_ANSWERS),
+        calls("no receiver made yet", "rx.end", "ok text=ok 0 refused 0 dropped 0\\n"),
+        calls(
+            "the sample in one chunk",
+            &format!("rx.feed {}\nrx.end", hex(&SAMPLE_CAPTURE)),
+            "ok lines=at 0 ok 162 15 3 48 0;at 8 refused 4\nok text=at 10 open\\nok 1 refused 1 dropped 0\\n",
+        ),
+        calls("the sample byte by byte", &(each(&SAMPLE_CAPTURE) + "rx.end"), &sample_by_bytes()),
+        calls("494 bytes in chunks", &in_two(&wrong_frame(494)), "ok lines=\nok lines=at 0 refused 3"),
+        calls("495 bytes in chunks", &in_two(&wrong_frame(495)), "ok lines=\nok lines=at 0 refused 5"),
+        calls(
+            "a runaway in chunks",
+            &(in_two(&wrong_frame(501)[..500]) + "rx.end\nrx.feed 0d0a\nrx.end"),
+            "ok lines=\nok lines=\nok text=at 0 open\\nok 0 refused 0 dropped 0\\n\n\
+             ok lines=at 0 dropped;at 500 refused 4\nok text=ok 0 refused 1 dropped 1\\n",
+        ),
+    ]
+}
+
+/// The answers to the sample capture byte by byte: its two lines come with the 10 that ends their frame.
+fn sample_by_bytes() -> String {
+    let none = "ok lines=\n";
+    let (read, refused) = ("ok lines=at 0 ok 162 15 3 48 0\n", "ok lines=at 8 refused 4\n");
+    let rest = "ok text=at 10 open\\nok 1 refused 1 dropped 0\\n";
+    [&none.repeat(7), read, none, refused, none, none, rest].concat()
+}
+
+/// Both sides of number 60: a chunk up to the largest place is taken, of one byte more none is.
+fn last_places() -> Vec<Check> {
+    let new = |place: &str, feeds: &str| format!("rx.new {place}\n{feeds}");
+    vec![
+        calls(
+            "a chunk up to the largest place",
+            &new("18446744073709551613", "rx.feed 0d0a\nrx.feed -\nrx.feed 0d\nrx.end"),
+            "ok\nok lines=at 18446744073709551613 refused 4\nok lines=\nno 60 taken=0 lines=\n\
+             ok text=ok 0 refused 1 dropped 0\\n",
+        ),
+        calls(
+            "a chunk of one byte more",
+            &new("18446744073709551613", "rx.feed 0d0a0d\nrx.end\nrx.feed 0d0d\nrx.end"),
+            "ok\nno 60 taken=0 lines=\nok text=ok 0 refused 0 dropped 0\\n\nok lines=at 18446744073709551613 dropped\n\
+             ok text=at 18446744073709551614 open\\nok 0 refused 0 dropped 1\\n",
+        ),
+        calls(
+            "no place past the largest",
+            &new("18446744073709551616", "rx.end"),
+            "bad line\nok text=ok 0 refused 0 dropped 0\\n",
+        ),
     ]
 }

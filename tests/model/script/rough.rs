@@ -1,5 +1,6 @@
 //! Sections of any numbers at all, and of lines that are no calls.
 
+use super::receiver_walk::MOST_FED;
 use super::{buffer, Script};
 use crate::calls::{hex, LONGEST_LINE};
 use crate::random::Random;
@@ -24,6 +25,9 @@ const SAMPLES: [&str; 17] = [
     "desk.expire 109",
     "desk.dump",
 ];
+
+/// The same of the calls on the receiver.
+const RECEIVER_SAMPLES: [&str; 4] = ["rx.new 9", "rx.feed 0da20f0330482f0a0d", "rx.feed 0a0d05", "rx.end"];
 
 /// Words that are wrong in some places or in all of them.
 const ODD_WORDS: [&str; 32] = [
@@ -83,6 +87,22 @@ const NO_CALLS: [&str; 18] = [
     "desk.open 1 15 4 102 - 100 4294967296 0 a1a2a3a4a5a6a7a8a9aaab",
 ];
 
+/// Lines that are no calls on the receiver, and a place one past its type.
+const NO_RECEIVER_CALLS: [&str; 12] = [
+    "rx",
+    "rx.",
+    "rx.new",
+    "rx.feed",
+    "rx.feed ",
+    "rx.feed 0",
+    "rx.feed 0D0A",
+    "rx.feed 0d 0a",
+    "rx.end -",
+    "rx.end ",
+    "RX.end",
+    "rx.new 18446744073709551616",
+];
+
 /// Every call with numbers from all over their types.
 pub fn any_numbers(script: &mut Script) {
     for _ in 0..9 {
@@ -121,6 +141,39 @@ fn any_call(random: &mut Random, which: usize) -> String {
         15 => format!("desk.expire {clock}"),
         _ => "desk.dump".to_string(),
     }
+}
+
+/// The calls on the receiver with any words, then lines that are none of them, or nearly, and the longest lines.
+pub fn receiver_lines(script: &mut Script) {
+    for _ in 0..6 {
+        let (place, bytes, more) = (script.random.bits(), any_bytes(&mut script.random), any_bytes(&mut script.random));
+        for line in [format!("rx.new {place}"), format!("rx.feed {bytes}"), format!("rx.feed {more}")] {
+            script.call(line);
+        }
+        script.call("rx.end");
+    }
+    for sample in RECEIVER_SAMPLES.iter().cycle().take(4 * 8) {
+        let line = amiss(&mut script.random, sample);
+        script.call(line);
+    }
+    for line in NO_RECEIVER_CALLS {
+        script.call(line);
+    }
+    script.call("rx.end");
+    longest_receiver_lines(script);
+}
+
+/// The longest lines on the receiver, one byte less and one more, and the chunk with the longest answer there is: as
+/// many frames dropped as a line can feed, at the last places.
+fn longest_receiver_lines(script: &mut Script) {
+    for length in [LONGEST_LINE - 1, LONGEST_LINE, LONGEST_LINE + 1] {
+        let digits = length - "rx.new ".len();
+        script.call(format!("rx.new {:0digits$}", u64::MAX - MOST_FED as u64));
+    }
+    for fed in [MOST_FED + 1, MOST_FED] {
+        script.call(format!("rx.feed {}", "0d".repeat(fed)));
+    }
+    script.call("rx.end");
 }
 
 /// Up to 40 bytes of any value, as hex.

@@ -1,0 +1,115 @@
+//! The receiver of a capture that comes in chunks: it goes from byte to byte and keeps no more than the open frame.
+
+use crate::listing::{totals, Fate};
+use crate::telegram::{lowest, No, END, LONGEST_TELEGRAM, START};
+
+/// A frame that a 13 at this place opened, and its bytes so far. Of a runaway only the first 494 are kept; it is known
+/// by having so many without an end.
+#[derive(PartialEq, Eq)]
+struct Frame {
+    place: u64,
+    kept: Vec<u8>,
+}
+
+#[derive(PartialEq, Eq)]
+pub struct Receiver {
+    /// The place of the next byte.
+    pub place: u64,
+    open: Option<Frame>,
+    read: u64,
+    refused: u64,
+    dropped: u64,
+}
+
+/// What came of a chunk: how many of its bytes were taken, their lines, and the number that stopped it, if one did.
+pub struct Fed {
+    pub taken: usize,
+    pub lines: Vec<String>,
+    pub refusal: Option<No>,
+}
+
+impl Receiver {
+    /// A fresh receiver: no open frame, all totals 0, and its next byte has this place.
+    pub fn new(place: u64) -> Receiver {
+        Receiver { place, open: None, read: 0, refused: 0, dropped: 0 }
+    }
+
+    /// Takes a chunk by steps on what is left of it; an empty one is a step that takes nothing.
+    pub fn feed(&mut self, chunk: &[u8]) -> Fed {
+        let mut fed = Fed { taken: 0, lines: Vec::new(), refusal: None };
+        loop {
+            match self.step(&chunk[fed.taken..]) {
+                Ok((taken, line)) => {
+                    fed.taken += taken;
+                    fed.lines.extend(line);
+                }
+                Err(no) => fed.refusal = Some(no),
+            }
+            if fed.refusal.is_some() || fed.taken == chunk.len() {
+                return fed;
+            }
+        }
+    }
+
+    /// Takes the bytes up to and including the one that ends the next line, or all where none ends. Answers how many
+    /// it took and the line; 60 where what is left would carry the place past the largest.
+    fn step(&mut self, left: &[u8]) -> Result<(usize, Option<String>), No> {
+        lowest(&[(60, self.place.checked_add(left.len() as u64).is_none())])?;
+        for (before, byte) in left.iter().enumerate() {
+            let line = self.take(*byte);
+            if line.is_some() {
+                return Ok((before + 1, line));
+            }
+        }
+        Ok((left.len(), None))
+    }
+
+    /// Takes one byte and answers the line that it ends.
+    fn take(&mut self, byte: u8) -> Option<String> {
+        let place = self.place;
+        self.place += 1;
+        match byte {
+            START => self.open.replace(Frame { place, kept: vec![START] }).map(|frame| self.drop(&frame)),
+            END => self.open.take().map(|frame| self.close(frame)),
+            _ => {
+                self.keep(byte);
+                None
+            }
+        }
+    }
+
+    /// Keeps a byte of the open frame while there is use for it; outside of a frame it is passed over.
+    fn keep(&mut self, byte: u8) {
+        if let Some(frame) = self.open.as_mut().filter(|frame| frame.kept.len() < LONGEST_TELEGRAM) {
+            frame.kept.push(byte);
+        }
+    }
+
+    /// Counts a frame that a second 13 dropped.
+    fn drop(&mut self, frame: &Frame) -> String {
+        self.dropped += 1;
+        Fate::Dropped.line(frame.place)
+    }
+
+    /// Counts a frame that a 10 closed: it is read where the 10 still has room among the 494, otherwise refused 5.
+    fn close(&mut self, mut frame: Frame) -> String {
+        let fate = if frame.kept.len() < LONGEST_TELEGRAM {
+            frame.kept.push(END);
+            Fate::of(&frame.kept)
+        } else {
+            Fate::Refused(5)
+        };
+        match fate {
+            Fate::Read(_) => self.read += 1,
+            _ => self.refused += 1,
+        }
+        fate.line(frame.place)
+    }
+
+    /// What is left to say, each line ended by one newline: the open frame if there is one, and the totals.
+    pub fn rest(&self) -> String {
+        let open = self.open.iter().map(|frame| Fate::Open.line(frame.place));
+        let totals = totals(self.read, self.refused, self.dropped);
+        open.chain([totals]).map(|line| format!("{line}\n")).collect()
+    }
+}
