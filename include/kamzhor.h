@@ -1,11 +1,13 @@
-/* Kamzhor for C: the remainder, the frame reader and the value reader of the Interbus telegram.
+/* Kamzhor for C: the remainder, the frame reader and the value reader of the Interbus telegram, and a receiver that finds
+ * the frames of a line however its bytes come.
  *
  * Link with libkamzhor.a, which `rt staticlib kamzhor` writes to target/staticlib (x86-64 Linux):
  *
  *     cc -I include host.c target/staticlib/libkamzhor.a -o host
  *
  * The library keeps no state, takes no memory and holds no lock: any number of threads may call it at once, as long as no
- * two of them share a buffer that one of them lends as room. A call needs under 1 KiB of stack.
+ * two of them share a buffer that one of them lends as room. A call needs under 1 KiB of stack; kamzhor_step needs under
+ * 3 KiB, with the receiver that it is handed and its answer, which pass by value (520 and 568 bytes).
  *
  * Memory: every pointer comes with its length, in bytes. What is lent stays the caller's; the library reads and writes
  * it during the call only, never past its length. A null pointer with length 0 is an empty string of bytes.
@@ -23,6 +25,26 @@
  *         if (v.refusal == KAMZHOR_DONE)
  *             printf("register %u is %s%llu\n", (unsigned)t.reg, v.negative ? "-" : "", (unsigned long long)v.magnitude);
  *     }
+ *
+ * A line that comes in chunks is taken by steps, each on what the one before it left of the chunk. The receiver goes from
+ * each answer into the next step, and no other memory is needed, whatever comes:
+ *
+ *     struct kamzhor_receiver receiver = kamzhor_receiver(0);
+ *     ssize_t length;
+ *     while ((length = read(line, chunk, sizeof chunk)) > 0) {
+ *         size_t from = 0;
+ *         while (from < (size_t)length) {
+ *             struct kamzhor_step step = kamzhor_step(receiver, chunk + from, (size_t)length - from);
+ *             if (step.refusal != KAMZHOR_DONE)
+ *                 return step.refusal;
+ *             receiver = step.receiver;
+ *             from += (size_t)step.taken;
+ *             if (step.line == KAMZHOR_LINE_OK)
+ *                 printf("at %llu from %u\n", (unsigned long long)step.place, (unsigned)step.frame.source);
+ *         }
+ *     }
+ *     if (receiver.size > 0)
+ *         printf("at %llu open\n", (unsigned long long)receiver.start);
  */
 #ifndef KAMZHOR_H
 #define KAMZHOR_H
@@ -41,14 +63,15 @@ enum {
     KAMZHOR_STRAY_END = 2,        /* a 10 or 13 between the ends */
     KAMZHOR_BAD_SUBSTITUTION = 3, /* a 94 that is not followed by 74, 77 or 158 */
     KAMZHOR_SHORT_MESSAGE = 4,    /* under 6 bytes */
-    KAMZHOR_LONG_MESSAGE = 5,     /* over 246 bytes */
+    KAMZHOR_LONG_MESSAGE = 5,     /* over 246 bytes; for a receiver also any frame over 494 */
     KAMZHOR_NO_ROOM = 6,          /* the room is shorter than the data */
     KAMZHOR_CHECK_FAULT = 7,      /* the remainder of the message is not 0 */
     KAMZHOR_ZERO_ADDRESS = 8,     /* destination or source 0 */
     KAMZHOR_UNKNOWN_TYPE = 9,     /* type over 9 */
     KAMZHOR_UNKNOWN_KIND = 40,    /* no kind of value */
     KAMZHOR_WRONG_LENGTH = 41,    /* length 0, or no multiple of the kind's size */
-    KAMZHOR_NO_SUCH_ELEMENT = 42  /* the bytes end before that element does */
+    KAMZHOR_NO_SUCH_ELEMENT = 42, /* the bytes end before that element does */
+    KAMZHOR_PAST_LARGEST = 60     /* the chunk would carry the place past 2^64 - 1 */
 };
 
 /* Types of a message. */
@@ -76,8 +99,19 @@ enum {
     KAMZHOR_U64 = 7
 };
 
+/* What became of the frame whose line a step ended. */
+enum {
+    KAMZHOR_NO_LINE = 0,      /* the step ended none */
+    KAMZHOR_LINE_OK = 1,      /* it is a telegram */
+    KAMZHOR_LINE_REFUSED = 2, /* a 10 closed it, and it is no telegram */
+    KAMZHOR_LINE_DROPPED = 3  /* a second 13 came before a 10, and opened another frame */
+};
+
 /* A telegram has at most so many data bytes: a room of this length is never too short. */
 #define KAMZHOR_MOST_DATA 240
+
+/* A telegram has at most so many bytes, both ends included, and a receiver keeps no more of a frame. */
+#define KAMZHOR_MOST_KEPT 494
 
 /* Where refusal is not KAMZHOR_DONE, every other field is 0. */
 struct kamzhor_frame {
@@ -98,6 +132,28 @@ struct kamzhor_value {
     uint64_t magnitude;
 };
 
+/* What is kept of the bytes so far: all that a step needs of them. It is the caller's, to copy, to save and to go on with
+ * later; a copy goes on as the first would. Every value is answered, but only kamzhor_receiver and kamzhor_step make one
+ * that stands for bytes that came. Outside a frame start, size and bytes are 0. Compare two by their fields: two bytes of
+ * padding stand at the end. In C++ it is `struct kamzhor_receiver`, as its call has the same name; so with kamzhor_step. */
+struct kamzhor_receiver {
+    uint64_t place;                   /* of the next byte */
+    uint64_t start;                   /* of the open frame: the place of its 13 */
+    uint64_t size;                    /* how many of its bytes are kept; KAMZHOR_MOST_KEPT: it is too long, whatever comes */
+    uint8_t bytes[KAMZHOR_MOST_KEPT]; /* these bytes, from the 13 on; 0 behind them */
+};
+
+/* What a step did, and the receiver behind it. Where refusal is not KAMZHOR_DONE, nothing was taken, the receiver is the one
+ * that was handed over, and every other field is 0. */
+struct kamzhor_step {
+    uint32_t refusal;
+    uint32_t line;              /* what became of the frame whose line the last byte taken ended, or KAMZHOR_NO_LINE */
+    uint64_t taken;             /* how many bytes of the chunk: at least one, but of an empty chunk */
+    uint64_t place;             /* of that frame's 13; 0 without a line */
+    struct kamzhor_frame frame; /* as kamzhor_read_frame tells it; 0 without a line, and where it was dropped */
+    struct kamzhor_receiver receiver;
+};
+
 /* The remainder of the bytes: their bits as a polynomial, times x^16, divided by x^16 + x^12 + x^5 + 1. 0 of no bytes,
  * and 0 of a whole right message. */
 uint16_t kamzhor_remainder(const uint8_t *bytes, size_t length);
@@ -109,6 +165,18 @@ struct kamzhor_frame kamzhor_read_frame(const uint8_t *frame, size_t length, uin
 /* Reads the value of that kind at an element of the bytes, counted from 0. Gives 0, 40, 41 or 42. No number is cut:
  * kind 257 is no kind. */
 struct kamzhor_value kamzhor_read_value(uint64_t kind, const uint8_t *bytes, size_t length, uint64_t element);
+
+/* A receiver before any byte, the next of which has that place: 0 at the start of a line. */
+struct kamzhor_receiver kamzhor_receiver(uint64_t place);
+
+/* Takes the bytes of a chunk up to and including the one that ends the next line, or all of them where none does. A chunk
+ * may have any length, 0 too, and however the bytes were cut, the lines are those of all of them joined. A frame over 494
+ * bytes is refused 5 when its 10 comes, whatever stands in it; until then it is open like any other. Gives 0 or 60, and
+ * after 60 the same receiver goes on with a chunk that is shorter.
+ *
+ * The frame of a line is in the bytes kept before the step, if any were, and then in the chunk's up to the last one taken;
+ * or, if none were, in the chunk's from place minus the receiver's place on. Joined, kamzhor_read_frame reads its data. */
+struct kamzhor_step kamzhor_step(struct kamzhor_receiver receiver, const uint8_t *chunk, size_t length);
 
 #ifdef __cplusplus
 }

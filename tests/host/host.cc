@@ -1,4 +1,4 @@
-/* The library from C++, with neither its headers nor its library: that the header's names are C's there too, and that both
+/* The library from C++, with neither its headers nor its library: that the header's names are C's there too, and that all
  * answers come back whole. */
 #include "kamzhor.h"
 #include "kamzhor.h"
@@ -27,10 +27,23 @@ static bool refused()
         && kamzhor_read_value(8, below, sizeof below, 0).refusal == KAMZHOR_UNKNOWN_KIND;
 }
 
+/* a receiver and a step have the names of their calls, so that `struct` is needed here */
+static bool received()
+{
+    const uint8_t line[] = {65, 13, 0xA2, 0x0F, 0x03, 0x30, 0x48, 0x2F, 10, 13};
+    struct kamzhor_step cut = kamzhor_step(kamzhor_receiver(7), line, 5);
+    struct kamzhor_step ended = kamzhor_step(cut.receiver, line + 5, 5);
+    struct kamzhor_step opened = kamzhor_step(ended.receiver, line + 9, 1);
+    return cut.line == KAMZHOR_NO_LINE && cut.taken == 5 && cut.receiver.start == 8 && cut.receiver.size == 4 && cut.receiver.bytes[3] == 3
+        && ended.line == KAMZHOR_LINE_OK && ended.taken == 4 && ended.place == 8 && ended.frame.reg == 48 && ended.receiver.size == 0
+        && opened.line == KAMZHOR_NO_LINE && opened.receiver.place == 17 && opened.receiver.start == 16
+        && kamzhor_step(kamzhor_receiver(UINT64_MAX), line, 1).refusal == KAMZHOR_PAST_LARGEST;
+}
+
 int main()
 {
     const uint8_t bytes[] = {0x0F, 0xA2, 0x04, 0x66};
-    if (kamzhor_remainder(bytes, sizeof bytes) != 0xC7B6 || !frame_read() || !refused()) {
+    if (kamzhor_remainder(bytes, sizeof bytes) != 0xC7B6 || !frame_read() || !refused() || !received()) {
         puts("host: FAILED from C++");
         return 1;
     }

@@ -122,3 +122,86 @@ struct plain_value plain_read_value(uint64_t kind, const uint8_t *bytes, size_t 
     }
     return v;
 }
+
+/* ---- a stream in chunks */
+
+/* where the frame starts that is open behind the first n bytes; n where none is */
+static size_t open_frame(const uint8_t *stream, size_t n)
+{
+    size_t i = n;
+    while (i > 0 && stream[i - 1] != 10 && stream[i - 1] != 13)
+        i--;
+    return i > 0 && stream[i - 1] == 13 ? i - 1 : n;
+}
+
+/* the line that this byte ends, of the frame before it */
+static void line_of(const uint8_t *frame, size_t n, uint64_t place, uint8_t end, struct plain_step *out)
+{
+    uint8_t closed[PLAIN_KEPT];
+    out->place = place;
+    if (end == 13) {
+        out->line = 3;
+        return;
+    }
+    if (n < PLAIN_KEPT) {
+        memcpy(closed, frame, n);
+        closed[n] = 10;
+        plain_read_frame(closed, n + 1, 240, &out->frame);
+    } else
+        out->frame.refusal = 5;
+    out->line = out->frame.refusal ? 2 : 1;
+}
+
+static void receiver_behind(const uint8_t *stream, size_t n, uint64_t place, struct plain_receiver *out)
+{
+    size_t start = open_frame(stream, n);
+    memset(out, 0, sizeof *out);
+    out->place = place + n;
+    if (start == n)
+        return;
+    out->start = place + start;
+    out->size = n - start < PLAIN_KEPT ? n - start : PLAIN_KEPT;
+    memcpy(out->bytes, stream + start, (size_t)out->size);
+}
+
+void plain_step_in(const uint8_t *stream, size_t from, size_t to, uint64_t place, struct plain_step *out)
+{
+    size_t i, start;
+    memset(out, 0, sizeof *out);
+    if (to > UINT64_MAX - place) {
+        out->refusal = 60;
+        to = from;
+    }
+    for (i = from; i < to && !out->line; i++)
+        if ((stream[i] == 10 || stream[i] == 13) && (start = open_frame(stream, i)) < i)
+            line_of(stream + start, i - start, place + start, stream[i], out);
+    out->taken = i - from;
+    receiver_behind(stream, i, place, &out->receiver);
+}
+
+void plain_step_of(const struct plain_receiver *receiver, const uint8_t *chunk, size_t n, struct plain_step *out)
+{
+    struct plain_receiver *r = &out->receiver;
+    memset(out, 0, sizeof *out);
+    *r = *receiver;
+    if (n > UINT64_MAX - r->place) {
+        out->refusal = 60;
+        return;
+    }
+    while (out->taken < n && !out->line) {
+        uint8_t byte = chunk[out->taken++];
+        uint64_t place = r->place++;
+        if (r->size > 0 && (byte == 10 || byte == 13))
+            line_of(r->bytes, r->size < PLAIN_KEPT ? (size_t)r->size : PLAIN_KEPT, r->start, byte, out);
+        if (byte == 13 || out->line) {
+            memset(r, 0, sizeof *r);
+            r->place = place + 1;
+        }
+        if (byte == 13) {
+            r->start = place;
+            r->size = 1;
+            r->bytes[0] = 13;
+        } else if (r->size > 0 && r->size < PLAIN_KEPT)
+            r->bytes[r->size++] = byte;
+    }
+}

@@ -1,5 +1,6 @@
 /* The paper once more, in plain C: long division for the remainder, a pass per row for the reader, 64-bit arithmetic for
- * the values. It shares no code with the library that it is compared with. */
+ * the values, one reading of all bytes for a stream in chunks. It shares no code with the library that it is compared
+ * with. */
 #ifndef PLAIN_H
 #define PLAIN_H
 
@@ -7,6 +8,7 @@
 #include <stdint.h>
 
 #define PLAIN_LONGEST 2048
+#define PLAIN_KEPT 494
 
 struct plain_frame {
     unsigned refusal, destination, source, type, reg;
@@ -19,6 +21,18 @@ struct plain_value {
     uint64_t magnitude;
 };
 
+struct plain_receiver {
+    uint64_t place, start, size;
+    uint8_t bytes[PLAIN_KEPT];
+};
+
+struct plain_step {
+    unsigned refusal, line;
+    uint64_t taken, place;
+    struct plain_frame frame;
+    struct plain_receiver receiver;
+};
+
 /* at most PLAIN_LONGEST bytes in each */
 unsigned plain_remainder(const uint8_t *bytes, size_t n);
 void plain_read_frame(const uint8_t *frame, size_t n, size_t room, struct plain_frame *out);
@@ -26,5 +40,12 @@ struct plain_value plain_read_value(uint64_t kind, const uint8_t *bytes, size_t 
 
 /* The telegram of n message bytes, substituted and framed; answers its length. */
 size_t plain_framed(const uint8_t *message, size_t n, uint8_t *out);
+
+/* The step over the bytes of a stream from one of them up to another, by reading the stream from its first byte, which has
+ * that place: nothing is kept from step to step. */
+void plain_step_in(const uint8_t *stream, size_t from, size_t to, uint64_t place, struct plain_step *out);
+
+/* The step of any receiver, also of one that no bytes lead to, byte by byte. */
+void plain_step_of(const struct plain_receiver *receiver, const uint8_t *chunk, size_t n, struct plain_step *out);
 
 #endif

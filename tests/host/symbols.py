@@ -23,4 +23,4 @@ stated = sorted(set(re.findall(r"\bKAMZHOR_\w+", header)) - {"KAMZHOR_H"})
 looked_at = sorted(re.findall(r"\bIS\((KAMZHOR_\w+), \d+\)", open(sys.argv[3], encoding="ascii").read()))
 if not stated or stated != looked_at:
     sys.exit(f"symbols: constants of only one of the header and {sys.argv[3]}: {sorted(set(stated) ^ set(looked_at))}")
-print("symbols: each of the header's", len(stated), "constants has its number from the paper")
+print("symbols: each of the header's", len(stated), "constants has its number in", sys.argv[3])

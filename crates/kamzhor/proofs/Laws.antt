@@ -26,9 +26,14 @@ use Rattle.values.proofs.Sized.{kind-unknown, size-le, half-le, kind-positive, 
 use Rattle.values.proofs.Refusals.{read-is, read-none}
 use Rattle.values.specs.declared.Value.{Value}
 use Rattle.values.specs.declared.Value.the-variants.{Natural, Negative}
-use Rattle.kamzhor.specs.Host.{GivesRemainder, GivesFrame, GivesValue, told, frameNumber, frameGiven, valueNumber, valueFound, valueGiven, isSmall, meant}
+use Rattle.receiver.specs.Receiver.{Starts, Steps}
+use Rattle.receiver.specs.declared.Receiver.{Receiver}
+use Rattle.receiver.specs.declared.Stepped.{Stepped}
+use Rattle.kamzhor.specs.Host.{GivesRemainder, GivesFrame, GivesValue, GivesReceiver, GivesStep}
+use Rattle.kamzhor.specs.Host.{told, frameNumber, frameGiven, valueNumber, valueFound, valueGiven, isSmall, meant, stepGiven}
 use Rattle.kamzhor.specs.declared.FrameAnswer.{FrameAnswer}
 use Rattle.kamzhor.specs.declared.ValueAnswer.{ValueAnswer}
+use Rattle.kamzhor.specs.declared.StepAnswer.{StepAnswer}
 use Rattle.telegram.specs.Read as telegram
 use Rattle.telegram.proofs.Ranking as ranking
 use Rattle.telegram.specs.declared.Fault as tfault
@@ -51,6 +56,12 @@ gives-frame-settled frame room = settled-with _ _
 
 pub gives-value-settled : (kind : ℕ) (bytes : List ℕ) (element : ℕ) → Settled (GivesValue kind bytes element)
 gives-value-settled kind bytes element = settled _
+
+pub gives-receiver-settled : (place : ℕ) → Settled (GivesReceiver place)
+gives-receiver-settled place = settled _
+
+pub gives-step-settled : (r : Receiver) (chunk : List ℕ) → Settled (GivesStep r chunk)
+gives-step-settled r chunk = settled _
 
 -- ---- nothing is cut
 
@@ -95,6 +106,12 @@ frame-fields frame room t gives read = rw (gives .0 ∙ ap frameGiven read) (ref
 pub value-as-read : (kind : ℕ) (bytes : List ℕ) (element : ℕ) {q : vreading.Reading} {r : ValueAnswer}
     → values.Reads kind bytes element q → GivesValue kind bytes element r → r ≡ valueGiven q
 value-as-read kind bytes element p g = g ∙ ap valueGiven (sym p)
+
+pub receiver-as-started : (place : ℕ) {q r : Receiver} → Starts place q → GivesReceiver place r → r ≡ q
+receiver-as-started place p g = g ∙ sym p
+
+pub step-as-taken : (r : Receiver) (chunk : List ℕ) {s : Stepped} {a : StepAnswer} → Steps r chunk s → GivesStep r chunk a → a ≡ stepGiven s
+step-as-taken r chunk p g = g ∙ ap stepGiven (sym p)
 
 -- ---- the number is the paper's: "Each is given exactly when its condition holds and no earlier one does."
 

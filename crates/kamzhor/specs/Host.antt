@@ -15,13 +15,22 @@ use Rattle.telegram.specs.declared.Reading.the-variants.{Telegram, Refused}
 use Rattle.values.specs.Values.{readValue}
 use Rattle.values.specs.declared.Value.{Value}
 use Rattle.values.specs.declared.Value.the-variants.{Natural, Negative}
+use Rattle.lines.specs.declared.Event.{Event}
+use Rattle.lines.specs.declared.Placed.{Placed}
+use Rattle.receiver.specs.declared.Receiver.{Receiver}
+use Rattle.receiver.specs.declared.Answer.{Answer}
+use Rattle.receiver.specs.declared.Stepped.{Stepped}
 use Rattle.kamzhor.specs.declared.FrameAnswer.{FrameAnswer}
 use Rattle.kamzhor.specs.declared.ValueAnswer.{ValueAnswer}
+use Rattle.kamzhor.specs.declared.StepAnswer.{StepAnswer}
 use Rattle.telegram.specs.Read as telegram
 use Rattle.telegram.specs.declared.Reading as treading
 use Rattle.values.specs.Values as values
 use Rattle.values.specs.declared.Reading as vreading
 use Rattle.values.specs.declared.Reading.the-variants as vreadings
+use Rattle.lines.specs.declared.Event.the-variants as event
+use Rattle.receiver.specs.Receiver as receiver
+use Rattle.receiver.specs.declared.Answer.the-variants as answer
 
 -- the number that an answer tells: none where its refusal is 0
 abbrev pub told : ℕ → Option ℕ
@@ -79,6 +88,37 @@ abbrev pub isSmall : Value → Type 0
 isSmall (Natural n) = Unit {0}
 isSmall (Negative n) = n + 1 < 2 ^ 64
 
+-- ---- the receiver
+
+-- what became of a line's frame. No step tells 4: an open frame has its line at the capture's end
+abbrev pub lineKind : Event → ℕ
+lineKind (event.Read t) = 1
+lineKind (event.Refused f) = 2
+lineKind event.Dropped = 3
+lineKind event.Open = 4
+
+-- what a line says of its frame: the frame reader's answer, where there is one
+abbrev pub lineFrame : Event → FrameAnswer
+lineFrame (event.Read t) = frameGiven (Telegram t)
+lineFrame (event.Refused f) = frameGiven (Refused f)
+lineFrame event.Dropped = frameNumber 0
+lineFrame event.Open = frameNumber 0
+
+abbrev pub noLine : Receiver → ℕ → ℕ → StepAnswer
+noLine r taken refusal = record { refusal = refusal; line = 0; taken = taken; place = 0; frame = frameNumber 0; receiver = r }
+
+abbrev pub withLine : Receiver → ℕ → Placed → StepAnswer
+withLine r taken e =
+    record { refusal = 0; line = lineKind (e .event); taken = taken; place = e .place; frame = lineFrame (e .event); receiver = r }
+
+abbrev pub answerGiven : Receiver → ℕ → Answer → StepAnswer
+answerGiven r taken answer.Nothing = noLine r taken 0
+answerGiven r taken (answer.Refused f) = noLine r taken (receiver.faultNumber f)
+answerGiven r taken (answer.Line e) = withLine r taken e
+
+abbrev pub stepGiven : Stepped → StepAnswer
+stepGiven s = answerGiven (s .receiver) (s .taken) (s .answer)
+
 -- ---- the contracts
 
 abbrev pub GivesRemainder : List ℕ → ℕ → Type 0
@@ -93,3 +133,11 @@ GivesFrame frame room r room′ =
 -- `kamzhor_read_value`: `kind` and `element` are any numbers
 abbrev pub GivesValue : ℕ → List ℕ → ℕ → ValueAnswer → Type 0
 GivesValue kind bytes element r = r ≡ valueGiven (readValue kind bytes element)
+
+-- `kamzhor_receiver`: outside a frame, before the byte at that place
+abbrev pub GivesReceiver : ℕ → Receiver → Type 0
+GivesReceiver place r = r ≡ receiver.outsideAt place
+
+-- `kamzhor_step`: a step of any receiver, one that no call made too, and the receiver behind it
+abbrev pub GivesStep : Receiver → List ℕ → StepAnswer → Type 0
+GivesStep r chunk a = a ≡ stepGiven (receiver.stepOf r chunk)

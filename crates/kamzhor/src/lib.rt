@@ -1,6 +1,8 @@
 // What the C capture host calls; include/kamzhor.h is its side of this file. Each call is thin
 // over a proved function and passes that function's promise on: specs/Host.antt says how.
-ghost use Rattle.kamzhor.specs.Host.{GivesRemainder, GivesFrame, GivesValue, frameGiven, valueNumber, valueFound, isSmall};
+use receiver::Receiver;
+ghost use Rattle.kamzhor.specs.Host.{GivesRemainder, GivesFrame, GivesValue, GivesReceiver, GivesStep};
+ghost use Rattle.kamzhor.specs.Host.{frameNumber, frameGiven, valueNumber, valueFound, isSmall, noLine, lineKind, lineFrame, stepGiven};
 ghost use Rattle.values.specs.Values.{faultNumber};
 ghost use mathlib.Core.Path.{_≡_};
 
@@ -25,6 +27,20 @@ pub struct ValueAnswer {
     pub refusal: u32,
     pub negative: u32,
     pub magnitude: u64,
+}
+
+// A step's outcome. `refusal` is 60 where none of the chunk was taken, or 0. `line` says what became
+// of the frame whose line the last byte taken ended: 1 read, 2 refused, 3 dropped; 0 where none
+// ended. `place` is that of the frame's 13, and `frame` what the line says of it. What is not said
+// is 0.
+#[repr(C)]
+pub struct StepAnswer {
+    pub refusal: u32,
+    pub line: u32,
+    pub taken: u64,
+    pub place: u64,
+    pub frame: FrameAnswer,
+    pub receiver: Receiver,
 }
 
 #[no_mangle]
@@ -57,19 +73,29 @@ pub extern "C" fn kamzhor_read_value(kind: u64, bytes: &[u8], element: u64) -> V
     }
 }
 
+// A receiver before any byte, the next of which has that place.
+#[no_mangle]
+pub extern "C" fn kamzhor_receiver(place: u64) -> Receiver
+    ensures { λ r. ⌜ GivesReceiver place r ⌝ }
+{
+    receiver::fresh(place)
+}
+
+// Takes the bytes of the chunk up to and including the one that ends the next line, or all of them
+// where none does; what is left of it is for the next step. A chunk that would carry the place past
+// the largest is refused, and none of it is taken.
+#[no_mangle]
+pub extern "C" fn kamzhor_step(receiver: Receiver, chunk: &[u8]) -> StepAnswer
+    ensures { λ r. ⌜ GivesStep receiver (now (chunk .entry)) r ⌝ }
+{
+    of_step(receiver::step(receiver, chunk))
+}
+
 fn of_reading(reading: telegram::Reading) -> FrameAnswer
     ensures { λ r. ⌜ r ≡ frameGiven reading ⌝ }
 {
     match reading {
-        telegram::Reading::Refused(fault) => FrameAnswer {
-            refusal: telegram::number(fault) as u32,
-            destination: 0,
-            source: 0,
-            sort: 0,
-            register: 0,
-            size: 0,
-            place: 0,
-        },
+        telegram::Reading::Refused(fault) => frame_number(telegram::number(fault)),
         telegram::Reading::Telegram(t) => FrameAnswer {
             refusal: 0,
             destination: t.destination,
@@ -79,6 +105,21 @@ fn of_reading(reading: telegram::Reading) -> FrameAnswer
             size: t.size as u64,
             place: 0,
         },
+    }
+}
+
+// A refusal's number, or 0 where there is nothing to say of a frame.
+fn frame_number(refusal: u8) -> FrameAnswer
+    ensures { λ r. ⌜ r ≡ frameNumber refusal ⌝ }
+{
+    FrameAnswer {
+        refusal: refusal as u32,
+        destination: 0,
+        source: 0,
+        sort: 0,
+        register: 0,
+        size: 0,
+        place: 0,
     }
 }
 
@@ -107,5 +148,65 @@ fn of_value(value: values::Value) -> ValueAnswer
             negative: 1,
             magnitude: below + 1,
         },
+    }
+}
+
+fn of_step(stepped: receiver::Stepped) -> StepAnswer
+    ensures { λ r. ⌜ r ≡ stepGiven stepped ⌝ }
+{
+    let receiver = stepped.receiver;
+    let answer = stepped.answer;
+    match answer {
+        receiver::Answer::Nothing => no_line(receiver, stepped.taken, 0),
+        receiver::Answer::Refused(fault) => {
+            no_line(receiver, stepped.taken, receiver::number(fault))
+        }
+        receiver::Answer::Line(line) => {
+            let event = line.event;
+            StepAnswer {
+                refusal: 0,
+                line: kind_of(event),
+                taken: stepped.taken as u64,
+                place: line.place,
+                frame: of_event(event),
+                receiver,
+            }
+        }
+    }
+}
+
+fn no_line(receiver: Receiver, taken: usize, refusal: u8) -> StepAnswer
+    ensures { λ r. ⌜ r ≡ noLine receiver taken refusal ⌝ }
+{
+    StepAnswer {
+        refusal: refusal as u32,
+        line: 0,
+        taken: taken as u64,
+        place: 0,
+        frame: frame_number(0),
+        receiver,
+    }
+}
+
+fn kind_of(event: lines::Event) -> u32
+    ensures { λ r. ⌜ r ≡ lineKind event ⌝ }
+{
+    match event {
+        lines::Event::Read(_) => 1,
+        lines::Event::Refused(_) => 2,
+        lines::Event::Dropped => 3,
+        lines::Event::Open => 4,
+    }
+}
+
+// What a line says of its frame: what the frame reader would answer.
+fn of_event(event: lines::Event) -> FrameAnswer
+    ensures { λ r. ⌜ r ≡ lineFrame event ⌝ }
+{
+    match event {
+        lines::Event::Read(t) => of_reading(telegram::Reading::Telegram(t)),
+        lines::Event::Refused(fault) => of_reading(telegram::Reading::Refused(fault)),
+        lines::Event::Dropped => frame_number(0),
+        lines::Event::Open => frame_number(0),
     }
 }

@@ -7,4 +7,5 @@ typedef unsigned long size_t;
 #else
 #define NULL ((void *)0)
 #endif
+#define offsetof(type, field) __builtin_offsetof(type, field)
 #endif

@@ -12,14 +12,16 @@ enum-known-reading c = search needs
 number-requires : tie.Need-number-requires
 number-requires c κs = search needs
 
-cast-t6 : tie.Need-cast-t6
-cast-t6 c = search needs
+frame-number-requires : tie.Need-frame-number-requires
+frame-number-requires c κs = search needs
 
 enum-known-reading-2 : tie.Need-enum-known-reading-2
 enum-known-reading-2 c = search needs
 
 returns : tie.Need-returns
-returns c = ap frameNumber (c .number .ensures) ∙ sym (ap frameGiven (c .before .before .reading .given .1))
+returns c =
+    let number = c .before in
+    c .frame-number .ensures ∙ ap frameNumber (number .number .ensures) ∙ sym (ap frameGiven (number .before .before .reading .given .1))
 
 returns-2 : tie.Need-returns-2
 returns-2 c = sym (ap frameGiven (c .before .reading2 .given .1))
@@ -27,4 +29,10 @@ returns-2 c = sym (ap frameGiven (c .before .reading2 .given .1))
 pub of-reading-spec : {M : Type 1} → statement M
 of-reading-spec =
     tie.close
-    (tie.spec enum-known-reading number-requires cast-t6 enum-known-reading-2 returns returns-2)
+    (tie.spec
+    enum-known-reading
+    number-requires
+    frame-number-requires
+    enum-known-reading-2
+    returns
+    returns-2)
