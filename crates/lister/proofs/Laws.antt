@@ -14,6 +14,7 @@ use Rattle.rows.specs.Rows.{passedUp, raised, Numbered}
 use Rattle.rows.specs.Settled.{Settled}
 use Rattle.rows.proofs.Laws.{numbered, clash, first-false}
 use Rattle.rows.proofs.Settled.{settled, settled-with}
+use Rattle.lent.specs.Lent.{over}
 use Rattle.lent.proofs.Laws.{length-over}
 use Rattle.receiver.specs.declared.Fault.{Fault}
 use Rattle.receiver.specs.declared.Fault.the-variants.{PastLargest}
@@ -22,8 +23,9 @@ use Rattle.receiver.proofs.Goes.{next-place}
 use Rattle.receiver.proofs.Laws.{step-ranked}
 use Rattle.lister.specs.declared.Listing.{Listing}
 use Rattle.lister.specs.declared.Listed.{Listed}
+use Rattle.lister.specs.declared.Outcome.the-variants as outcome
 use Rattle.lister.specs.declared.Outcome.the-variants.{Done}
-use Rattle.lister.specs.Text.{longestLine, Poured, poured, behind, textTold, onward, pour, pourAnswer, pourOf, listOutcome, listTold, Begins, Lists}
+use Rattle.lister.specs.Text.{longestLine, Poured, poured, behind, textTold, onward, pour, pourAnswer, pourOf, listOutcome, listTold, listed, Begins, Lists}
 use Rattle.lister.proofs.Pouring.{lines-short}
 
 -- ---- what `list` writes fits the room, and what it takes is of the chunk
@@ -133,6 +135,17 @@ list-exactly l chunk room lists =
 pub list-untouched : (l : Listing) (chunk : List ℕ) (room : ℕ) → CarriesPast (l .receiver) chunk → pourOf l room chunk ≡ poured l 0 []
 unfolding CarriesPast pourOf stepRefusal
 list-untouched l chunk room past = rw (lt-ltb largest (l .receiver .place + length chunk) past) refl
+
+-- a call that is refused leaves the listing and every byte of the room as they were
+pub list-refusal-keeps : (l : Listing) (chunk room : List ℕ) (r : Listed) (room′ : List ℕ) (f : Fault) → Lists l chunk room r room′ → r .outcome ≡ outcome.Refused f
+    → (r .listing ≡ l) × (r .taken ≡ 0) × (r .size ≡ 0) × (room′ ≡ room)
+unfolding pourOf over
+list-refusal-keeps l chunk room r room′ f lists refused = by (stepRefusal (l .receiver) chunk) (lists .0) (lists .1)
+  where
+    by : (o : Option Fault) → let p = pourAnswer o l (pour l (length room) chunk) in r ≡ listed (p .listing) (p .taken) (length (p .text)) (listOutcome o) → room′ ≡ over (p .text) room
+        → (r .listing ≡ l) × (r .taken ≡ 0) × (r .size ≡ 0) × (room′ ≡ room)
+    by (some g) e q = (ap (λ (r : Listed). r .listing) e, ap (λ (r : Listed). r .taken) e, ap (λ (r : Listed). r .size) e, q)
+    by none e q = let done : r .outcome ≡ Done = ap (λ (r : Listed). r .outcome) e in clash (cc)
 
 -- ---- "Show that any two outcomes allowed by it are equal."
 

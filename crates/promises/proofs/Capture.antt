@@ -7,8 +7,8 @@ pub use Rattle.receiver.proofs.Laws.{passed-over, kept-most}
 pub use Rattle.receiver.proofs.Chunks.{same-reading, same-cuts}
 pub use Rattle.listing.proofs.Laws.{from-place}
 -- "60, ahead of all, when a chunk would carry the place past the largest; none of it is taken"
-pub use Rattle.receiver.proofs.Laws.{step-exactly, tests-right, refused-untouched}
-pub use Rattle.lister.proofs.Laws.{list-exactly, list-untouched}
+pub use Rattle.receiver.proofs.Laws.{tests-right, refused-untouched}
+pub use Rattle.lister.proofs.Laws.{list-untouched}
 -- "totals made up (they equal the numbers of such lines)"; ok, refused and dropped, and 1 where one is open, are the number of 13s
 pub use Rattle.lister.proofs.Whole.{totals-are}
 pub use Rattle.listing.proofs.Laws.{thirteens-are}

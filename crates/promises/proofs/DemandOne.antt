@@ -30,7 +30,9 @@ pub use Rattle.catalogue.proofs.Laws.{finds-settled}
 pub use Rattle.bench.proofs.Laws.{makes-settled, adds-settled, sets-settled, takes-settled}
 pub use Rattle.request.proofs.Laws.{asks-settled}
 pub use Rattle.desk.proofs.Laws.{opens-settled, replies-settled, cancels-settled, expires-settled}
-pub use Rattle.kamzhor.proofs.Laws.{gives-frame-settled, gives-value-settled}
+pub use Rattle.receiver.proofs.Laws.{steps-settled}
+pub use Rattle.lister.proofs.Laws.{lists-settled}
+pub use Rattle.kamzhor.proofs.Laws.{gives-frame-settled, gives-value-settled, gives-step-settled}
 -- ---- "refused with the number listed in the specification, by its order of checks": that number exactly when its row holds and no earlier
 -- one does, and done exactly when no row holds
 
@@ -49,6 +51,9 @@ pub use Rattle.bench.proofs.Laws.{make-exactly, add-exactly, set-exactly, take-
 pub use Rattle.values.proofs.Laws.{read-exactly as value-read-exactly, stored-exactly, write-exactly as value-write-exactly}
 -- row 50
 pub use Rattle.catalogue.proofs.Laws.{find-exactly}
+-- row 60
+pub use Rattle.receiver.proofs.Laws.{step-exactly}
+pub use Rattle.lister.proofs.Laws.{list-exactly}
 -- the calls `number` give the numbers that these laws tell
 pub use Rattle.telegram.proofs.Laws.{number-is}
 pub use Rattle.request.proofs.Laws.{number-is as request-number-is}
@@ -57,8 +62,10 @@ pub use Rattle.desk.proofs.Laws.{number-is as desk-number-is}
 pub use Rattle.bench.proofs.Laws.{number-is as bench-number-is}
 pub use Rattle.values.proofs.Laws.{number-is as value-number-is}
 pub use Rattle.catalogue.proofs.Laws.{number-is as catalogue-number-is}
+pub use Rattle.receiver.proofs.Laws.{number-is as receiver-number-is}
 -- the same numbers in C
 pub use Rattle.kamzhor.proofs.Laws.{frame-exactly, value-exactly}
+pub use Rattle.kamzhor.proofs.Steps.{step-exactly as host-step-exactly}
 -- ---- "a refusal changes no ticket, no register and no byte of a buffer we lent"
 
 -- the desk's calls
@@ -67,6 +74,10 @@ pub use Rattle.desk.proofs.Laws.{open-refusal-keeps, reply-refusal-keeps, cance
 pub use Rattle.bench.proofs.Laws.{make-refused, add-refused, set-refused, silent-stays}
 -- the C host's calls
 pub use Rattle.kamzhor.proofs.Laws.{frame-refused, value-refused}
+pub use Rattle.kamzhor.proofs.Steps.{step-refused}
+-- the receiver's calls
+pub use Rattle.receiver.proofs.Laws.{step-refusal-keeps}
+pub use Rattle.lister.proofs.Laws.{list-refusal-keeps}
 
 -- `telegram::read`
 pub read-keeps : (frame room : List ℕ) (f : Unreadable) (room′ : List ℕ) → Reads frame room (reading.Refused f) room′ → room′ ≡ room

@@ -13,7 +13,7 @@ use lib.Dec.{eqb, leb, ltb}
 use lib.ListN.{length}
 use Rattle.rows.specs.Rows.{Ranked, passedUp, raised, Numbered}
 use Rattle.rows.specs.Settled.{Settled}
-use Rattle.rows.proofs.Laws.{Decides, decides-lt, ranked, _otherwise_, numbered}
+use Rattle.rows.proofs.Laws.{Decides, decides-lt, ranked, _otherwise_, numbered, clash}
 use Rattle.rows.proofs.Settled.{settled}
 use Rattle.listing.specs.Events.{toNextEnd}
 use Rattle.receiver.specs.declared.Receiver.{Receiver}
@@ -63,6 +63,18 @@ pub refused-untouched : (r : Receiver) (chunk : List ℕ) → CarriesPast r chun
 unfolding CarriesPast stepOf stepRefusal
 refused-untouched r chunk past = rw (lt-ltb largest (r .place + length chunk) past) refl
 
+-- a step that is refused leaves the receiver as it was
+pub step-refusal-keeps : (r : Receiver) (chunk : List ℕ) (s : Stepped) (f : Fault) → Steps r chunk s → s .answer ≡ Refused f → (s .receiver ≡ r) × (s .taken ≡ 0)
+unfolding stepOf
+step-refusal-keeps r chunk s f steps refused = by (stepRefusal r chunk) steps
+  where
+    by : (o : Option Fault) → s ≡ stepAnswer o r (stepFrom r chunk) → (s .receiver ≡ r) × (s .taken ≡ 0)
+    by (some g) e = (ap (λ (s : Stepped). s .receiver) e, ap (λ (s : Stepped). s .taken) e)
+    by none e =
+        let told : stepTold (s .answer) ≡ none = ap (λ (s : Stepped). stepTold (s .answer)) e ∙ no-number r chunk in
+        let number : stepTold (s .answer) ≡ some (faultNumber f) = ap stepTold refused in
+        clash (cc)
+
 -- ---- 01: "Bytes outside a frame are passed over."
 
 pub passed-over : (r : Receiver) (b : ℕ) → r .size ≡ 0 → (b ≡ 13 → ⊥) → (told r b ≡ Nothing) × (next r b ≡ passed r)
@@ -80,6 +92,10 @@ kept-most place (b ∷ rest) = go (eqb b 13 && leb (length rest) (toNextEnd rest
     go false ih = ih
 
 -- ---- "Show that any two outcomes allowed by it are equal."
+
+-- the call `number` gives the number that the laws tell
+pub number-is : (f : Fault) (r : ℕ) → Numbers f r → r ≡ faultNumber f
+number-is f r p = p
 
 pub numbers-settled : (fault : Fault) → Settled (Numbers fault)
 numbers-settled fault = settled _
