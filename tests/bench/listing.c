@@ -1,43 +1,48 @@
-/* The night listing in plain C, for the comparison of whole programs. */
+/* The night listing of a capture of any length in plain C with stdio, for the comparison of whole programs. */
 #include "straight.h"
 #include <stdio.h>
 
-#define MOST 65536
+#define LONGEST 494
 
-static uint8_t bytes[MOST + 1], room[240];
+static uint8_t piece[65536], frame[LONGEST], room[240];
 
 int main(void)
 {
-    size_t n = fread(bytes, 1, sizeof bytes, stdin), i, at = 0;
-    unsigned long ok = 0, refused = 0, dropped = 0;
-    int open = 0;
+    unsigned long long place = 0, at = 0, ok = 0, refused = 0, dropped = 0;
+    size_t n, i, kept = 0; /* of the open frame; one over LONGEST where it ran away, 0 where none is open */
     printf("Interbus capture\n");
-    if (n > MOST) {
-        printf("longer than 65536 bytes\n");
-        return 0;
-    }
-    for (i = 0; i < n; i++) {
-        if (bytes[i] == 13) {
-            if (open) {
-                printf("at %lu dropped\n", (unsigned long)at);
-                dropped++;
+    while ((n = fread(piece, 1, sizeof piece, stdin)) > 0)
+        for (i = 0; i < n; i++, place++) {
+            if (piece[i] == 13) {
+                if (kept) {
+                    printf("at %llu dropped\n", at);
+                    dropped++;
+                }
+                at = place;
+                frame[0] = 13;
+                kept = 1;
+            } else if (kept) {
+                if (kept < LONGEST)
+                    frame[kept++] = piece[i];
+                else
+                    kept = LONGEST + 1;
+                if (piece[i] == 10) {
+                    struct straight_frame t = { 5, 0, 0, 0, 0, 0 };
+                    if (kept <= LONGEST)
+                        t = straight_read_frame(frame, kept, room, sizeof room);
+                    if (t.refusal) {
+                        printf("at %llu refused %u\n", at, t.refusal);
+                        refused++;
+                    } else {
+                        printf("at %llu ok %u %u %u %u %llu\n", at, t.destination, t.source, t.type, t.reg, (unsigned long long)t.size);
+                        ok++;
+                    }
+                    kept = 0;
+                }
             }
-            at = i;
-            open = 1;
-        } else if (bytes[i] == 10 && open) {
-            struct straight_frame t = straight_read_frame(bytes + at, i + 1 - at, room, sizeof room);
-            if (t.refusal) {
-                printf("at %lu refused %u\n", (unsigned long)at, t.refusal);
-                refused++;
-            } else {
-                printf("at %lu ok %u %u %u %u %lu\n", (unsigned long)at, t.destination, t.source, t.type, t.reg, (unsigned long)t.size);
-                ok++;
-            }
-            open = 0;
         }
-    }
-    if (open)
-        printf("at %lu open\n", (unsigned long)at);
-    printf("ok %lu refused %lu dropped %lu\n", ok, refused, dropped);
+    if (kept)
+        printf("at %llu open\n", at);
+    printf("ok %llu refused %llu dropped %llu\n", ok, refused, dropped);
     return 0;
 }

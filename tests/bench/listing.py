@@ -7,8 +7,8 @@ import subprocess
 import sys
 import tempfile
 
-ROUNDS = 101
-FIRST = 4096
+ROUNDS = 9
+FIRST = 65536
 
 
 def words(program):
@@ -43,7 +43,7 @@ for path in sys.argv[3:]:
 for capture in captures:
     if run(ours, capture)[1] != run(theirs, capture)[1]:
         sys.exit(f"bench: FAILED, the two listings of {capture} differ")
-print(f"medians of {ROUNDS} rounds, less those of the first {FIRST} bytes")
+print(f"{os.path.basename(sys.argv[2])}: medians of {ROUNDS} rounds, less those of the first {FIRST} bytes")
 for capture, x, y in zip(captures[::2], rest(ours, captures), rest(theirs, captures)):
     size = os.path.getsize(capture) - FIRST
-    print(f"{os.path.basename(capture):6} listing    {size:7}  proved {x / size:.2f}, plain C {y / size:.2f}, ratio {x / y:.2f}")
+    print(f"{os.path.basename(capture):6} listing    {size:8}  proved {x / size:.2f}, plain C {y / size:.2f}, ratio {x / y:.2f}")

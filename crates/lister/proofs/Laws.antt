@@ -38,13 +38,15 @@ unfolding pour
 pour-within l room [] = (omega arith, omega arith)
 pour-within l room (b ∷ rest) = go (ltb room longestLine) refl (pour-within (onward l b) (room - length (textTold l b)) rest)
   where
-    go : (t : Bool) → ltb room longestLine ≡ t → Within (room - length (textTold l b)) rest (pour (onward l b) (room - length (textTold l b)) rest)
-        → Within room (b ∷ rest) (cond t (poured l 0 []) (poured (pour (onward l b) (room - length (textTold l b)) rest .listing) (1 + pour (onward l b) (room - length (textTold l b)) rest .taken) (textTold l b ++ pour (onward l b) (room - length (textTold l b)) rest .text)))
+    later : Poured
+    later = pour (onward l b) (room - length (textTold l b)) rest
+
+    go : (t : Bool) → ltb room longestLine ≡ t → Within (room - length (textTold l b)) rest later
+        → Within room (b ∷ rest) (cond t (poured l 0 []) (behind 1 (textTold l b) later))
     go true e ih = (omega arith, omega arith)
     go false e ih =
         let space : longestLine ≤ room = ltb-false room longestLine e in
         let short : length (textTold l b) ≤ longestLine = lines-short (told (l .receiver) b) in
-        let later : Poured = pour (onward l b) (room - length (textTold l b)) rest in
         (rw (length-append (textTold l b) (later .text)) (omega (arith, ih .0)), omega (arith, ih .1))
 
 call-within : (l : Listing) (room : ℕ) (chunk : List ℕ) → Within room chunk (pourOf l room chunk)

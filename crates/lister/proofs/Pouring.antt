@@ -117,10 +117,16 @@ quiet-step l room b rest s none h ih =
     ∙ ap (λ (lines : List Placed). behind 1 (linesText lines) (pour (counted l lines (next (l .receiver) b)) (room - length (linesText lines)) rest)) none
     ∙ ap₂ (λ (text : List ℕ) (n : ℕ). behind 1 text (pour (counted l [] (next (l .receiver) b)) n rest)) no-line (ap (λ (t : List ℕ). room - length t) no-line ∙ sub-zero room)
     ∙ ap (behind 1 []) ih
-    ∙ one-first (s .taken) (linesText (lineIn (s .answer))) (pour (counted (counted l [] (next (l .receiver) b)) (lineIn (s .answer)) (s .receiver)) (room - length (linesText (lineIn (s .answer)))) (drop (s .taken) rest))
+    ∙ one-first (s .taken) (linesText (lineIn (s .answer))) later
     ∙ ap₂ (λ (k : Listing) (d : List ℕ). behind (s .taken + 1) (linesText (lineIn (s .answer))) (pour k (room - length (linesText (lineIn (s .answer)))) d))
     (counted-then l (next (l .receiver) b) (s .receiver) (lineIn (s .answer))) (ap (λ (n : ℕ). drop n (b ∷ rest)) (sym (add-one (s .taken))))
   where
+    again : Listing
+    again = counted (counted l [] (next (l .receiver) b)) (lineIn (s .answer)) (s .receiver)
+
+    later : Poured
+    later = pour again (room - length (linesText (lineIn (s .answer)))) (drop (s .taken) rest)
+
     same : (t n : ℕ) → 1 + (t + n) ≡ t + 1 + n
     same t n = omega arith
 
@@ -137,7 +143,7 @@ pub pour-step : (l : Listing) (room : ℕ) (chunk : List ℕ) → 0 < length chu
 pour-step l room [] some h = absurd (not-suc-le-zero some)
 pour-step l room (b ∷ rest) some h =
     ⊎-elim
-    (λ p. quiet-step l room b rest (stepFrom (next (l .receiver) b) rest) (p .0) h (later rest (pour-step (counted l [] (next (l .receiver) b)) room rest)) ∙ ap (pourBy l room (b ∷ rest)) (sym (p .1)))
+    (λ p. quiet-step l room b rest later-step (p .0) h (later rest (pour-step (counted l [] (next (l .receiver) b)) room rest)) ∙ ap (pourBy l room (b ∷ rest)) (sym (p .1)))
     (λ p. line-step l room b rest (p .0) (p .1) h
     ∙ ap (λ (a : Answer). pourBy l room (b ∷ rest) (endOr a (next (l .receiver) b) (stepFrom (next (l .receiver) b) rest))) (sym (p .1)))
     (on-or-end (told (l .receiver) b) (next (l .receiver) b) (stepFrom (next (l .receiver) b) rest))
@@ -145,6 +151,9 @@ pour-step l room (b ∷ rest) some h =
   where
     on : Listing
     on = counted l [] (next (l .receiver) b)
+
+    later-step : Stepped
+    later-step = stepFrom (next (l .receiver) b) rest
 
     later : (rest : List ℕ) → (0 < length rest → longestLine ≤ room → pour on room rest ≡ pourBy on room rest (stepFrom (on .receiver) rest))
         → pour on room rest ≡ pourBy on room rest (stepFrom (on .receiver) rest)
@@ -196,7 +205,8 @@ module _ (l₀ : Listing) (chunk room₀ : List ℕ) where
 
 module _ {l₀ : Listing} {chunk room₀ : List ℕ} {l : Listing} {taken size : ℕ} {room : List ℕ} (g : Going l₀ chunk room₀ l taken size room) where
   -- nothing more is poured: the room is full, or the chunk is done
-  ends : rest l₀ chunk room₀ l taken size room ≡ poured l 0 [] → (listed l taken size Done ≡ listed (whole l₀ chunk room₀ .listing) (whole l₀ chunk room₀ .taken) (length (whole l₀ chunk room₀ .text)) Done) × (room ≡ over (whole l₀ chunk room₀ .text) room₀)
+  ends : rest l₀ chunk room₀ l taken size room ≡ poured l 0 [] → let p = whole l₀ chunk room₀ in
+      (listed l taken size Done ≡ listed (p .listing) (p .taken) (length (p .text)) Done) × (room ≡ over (p .text) room₀)
   ends e = (
     ap₂ (λ (k : Listing) (n : ℕ × ℕ). listed k (n .0) (n .1) Done) (sym (ap (λ (p : Poured). p .listing) e) ∙ g .listing-is)
         (ap₂ (λ (a b : ℕ). (a, b))
@@ -230,8 +240,8 @@ module _ {l₀ : Listing} {chunk room₀ : List ℕ} {l : Listing} {taken size :
     pub step-within : taken + s .taken ≤ length chunk
     step-within = omega (arith, left-over)
 
-    pub text-within : (n : ℕ) → n ≡ length (linesText (lineIn (s .answer))) → size + n ≤ length room
-    text-within n e = let h : length (linesText (lineIn (s .answer))) ≤ longestLine = lines-short (s .answer) in omega (arith, g .in-room)
+    pub text-within : {n : ℕ} → n ≡ length (linesText (lineIn (s .answer))) → size + n ≤ length room
+    text-within {n} e = let h : length (linesText (lineIn (s .answer))) ≤ longestLine = lines-short (s .answer) in omega (arith, g .in-room)
 
     module _ (n : ℕ) (long : n ≡ length (linesText (lineIn (s .answer)))) (room′ : List ℕ) (laid : room′ ≡ overAt size (linesText (lineIn (s .answer))) room) where
       next-listing : Listing
@@ -243,7 +253,8 @@ module _ {l₀ : Listing} {chunk room₀ : List ℕ} {l : Listing} {taken size :
       room-left : length room - size - length (linesText (lineIn (s .answer))) ≡ length room′ - (size + n)
       room-left = let h = same-long in omega (arith, h)
 
-      stepped-on : rest l₀ chunk room₀ l taken size room ≡ behind (s .taken) (linesText (lineIn (s .answer))) (rest l₀ chunk room₀ (counted l (lineIn (s .answer)) (s .receiver)) (taken + s .taken) (size + n) room′)
+      stepped-on : rest l₀ chunk room₀ l taken size room
+          ≡ behind (s .taken) (linesText (lineIn (s .answer))) (rest l₀ chunk room₀ (counted l (lineIn (s .answer)) (s .receiver)) (taken + s .taken) (size + n) room′)
       stepped-on =
           pour-step l (length room - size) (drop taken chunk) (rw (length-drop taken chunk) (omega arith)) space
           ∙ ap (pourBy l (length room - size) (drop taken chunk)) (sym is)
@@ -259,7 +270,7 @@ module _ {l₀ : Listing} {chunk room₀ : List ℕ} {l : Listing} {taken size :
             room-is = rooms ∙ sym (ap (λ (p : Poured). overAt size (p .text) room) stepped-on) ∙ g .room-is;
             room-long = same-long ∙ g .room-long;
             in-chunk = step-within;
-            in-room = rw same-long (text-within n long);
+            in-room = rw same-long (text-within long);
             places = place-left;
           }
         where

@@ -209,10 +209,11 @@ module _ (rooms : ℕ → ℕ) (space : (n : ℕ) → longestLine ≤ rooms n) w
   pours-through (suc n) l chunk h g fits =
       let wide = space (l .receiver .place) in
       let one = first (rooms (l .receiver .place)) n l chunk wide h g fits in
+      let left : List ℕ = drop (pour l (rooms (l .receiver .place)) chunk .taken) chunk in
+      let next-listing : Listing = pour l (rooms (l .receiver .place)) chunk .listing in
       rw (call-is l (rooms (l .receiver .place)) chunk fits)
-      (through-then (rooms (l .receiver .place)) n l chunk wide h g fits (pours rooms n (pour l (rooms (l .receiver .place)) chunk .listing) (drop (pour l (rooms (l .receiver .place)) chunk .taken) chunk))
-      (pours-through n (pour l (rooms (l .receiver .place)) chunk .listing) (drop (pour l (rooms (l .receiver .place)) chunk .taken) chunk) (one .moved .held) (one .counted-is)
-      (still-fits (rooms (l .receiver .place)) n l chunk wide h g fits)))
+      (through-then (rooms (l .receiver .place)) n l chunk wide h g fits (pours rooms n next-listing left)
+      (pours-through n next-listing left (one .moved .held) (one .counted-is) (still-fits (rooms (l .receiver .place)) n l chunk wide h g fits)))
 
   -- a piece, all of it
   piece-went : (l : Listing) (piece : List ℕ) → Held (l .receiver) → Counted l → Fits (l .receiver .place) piece

@@ -120,7 +120,8 @@ same-reading place chunks fits =
 
 -- two cuts of the same bytes
 pub same-cuts : (place : ℕ) (a b : List (List ℕ)) → joined a ≡ joined b → place + length (joined a) ≤ largest
-    → (feed (outsideAt place) a .receiver ≡ feed (outsideAt place) b .receiver) × (feed (outsideAt place) a .lines ++ openLine (feed (outsideAt place) a .receiver) ≡ feed (outsideAt place) b .lines ++ openLine (feed (outsideAt place) b .receiver))
+    → let f = feed (outsideAt place) a in let g = feed (outsideAt place) b in
+    (f .receiver ≡ g .receiver) × (f .lines ++ openLine (f .receiver) ≡ g .lines ++ openLine (g .receiver))
 same-cuts place a b e fits =
     let p = same-reading place a fits in
     let q = same-reading place b (rw (← e) fits) in

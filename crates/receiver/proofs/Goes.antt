@@ -50,11 +50,17 @@ step-goes r [] = rw (step-none r) (omega arith, sym (add-zero (r .place)))
 step-goes r (b ∷ rest) =
     rw (step-cons r b rest)
     (⊎-elim
-    (λ p. rw (p .1) (let ih = step-goes (next r b) rest in (omega (arith, ih .0), ih .1 ∙ ap (λ (p : ℕ). p + stepFrom (next r b) rest .taken) (next-place r b) ∙ one-on (r .place) (stepFrom (next r b) rest .taken))))
+    (λ p. rw (p .1) (further (step-goes (next r b) rest)))
     (λ p. rw (p .1) (omega arith, next-place r b)) (on-or-end (told r b) (next r b) (stepFrom (next r b) rest)))
   where
     one-on : (p t : ℕ) → p + 1 + t ≡ p + (t + 1)
     one-on p t = omega arith
+
+    further : Goes (next r b) rest (stepFrom (next r b) rest) → Goes r (b ∷ rest) (oneMore (stepFrom (next r b) rest))
+    further ih = (
+      omega (arith, ih .0),
+      ih .1 ∙ ap (λ (p : ℕ). p + stepFrom (next r b) rest .taken) (next-place r b) ∙ one-on (r .place) (stepFrom (next r b) rest .taken),
+    )
 
 -- a step on some bytes takes at least one
 pub step-takes : (r : Receiver) (chunk : List ℕ) → 0 < length chunk → 0 < stepFrom r chunk .taken

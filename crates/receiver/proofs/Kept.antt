@@ -122,7 +122,9 @@ module _ (r : Receiver) (xs : List ℕ) (held : Held r) where
   last-length : length (xs ++ (10 ∷ [])) ≡ length xs + 1
   last-length = length-append xs (10 ∷ [])
 
-  kept-then : r .size + length xs + 1 ≤ 494 → take (r .size + length xs) (overAt (r .size) xs (r .bytes)) ++ (10 ∷ []) ≡ take (r .size + length (xs ++ (10 ∷ []))) (overAt (r .size) (xs ++ (10 ∷ [])) (r .bytes))
+  kept-then : r .size + length xs + 1 ≤ 494
+      → take (r .size + length xs) (overAt (r .size) xs (r .bytes)) ++ (10 ∷ [])
+      ≡ take (r .size + length (xs ++ (10 ∷ []))) (overAt (r .size) (xs ++ (10 ∷ [])) (r .bytes))
   kept-then h =
       let one : r .size + length xs ≤ length (r .bytes) = rw held (omega arith) in
       let two : r .size + length (xs ++ (10 ∷ [])) ≤ length (r .bytes) = rw (held, last-length) (omega arith) in

@@ -273,7 +273,8 @@ moved-then {r″ = r″} {left′ = left′} {a = a} {b = b} p q =
 pub moved-joined : {r r′ r″ : Receiver} {chunk next-chunk : List ℕ} {a b : List Placed} → Moved r chunk r′ a [] → Moved r′ next-chunk r″ b [] → Moved r (chunk ++ next-chunk) r″ (a ++ b) []
 moved-joined {r} {r″ = r″} {chunk} {next-chunk} {a} {b} p q =
     record {
-      same-lines = λ more. append-assoc a b (expected r″ more) ∙ ap (λ (l : List Placed). a ++ l) (q .same-lines more) ∙ p .same-lines (next-chunk ++ more) ∙ ap (expected r) (sym (append-assoc chunk next-chunk more));
+      same-lines = λ more. append-assoc a b (expected r″ more) ∙ ap (λ (l : List Placed). a ++ l) (q .same-lines more) ∙ p .same-lines (next-chunk ++ more)
+          ∙ ap (expected r) (sym (append-assoc chunk next-chunk more));
       same-receiver = λ more. q .same-receiver more ∙ p .same-receiver (next-chunk ++ more) ∙ ap (behindBytes r) (sym (append-assoc chunk next-chunk more));
       held = q .held;
     }

@@ -50,7 +50,7 @@ add-size : tie.Need-add-size Inv-loop μ-loop
 add-size c =
     let here = c .before .before .before .before in
     let test = here .before .before in
-    let h = text-within (test .before .before .loop .inv) (test .before .loop-test .taken) (test .if1 .left) (here .step .result) (here .step .ensures) (c .before .before .write-line .result) (c .before .before .write-line .ensures .0) in
+    let h = text-within (test .before .before .loop .inv) (test .before .loop-test .taken) (test .if1 .left) (here .step .result) (here .step .ensures) (c .before .before .write-line .ensures .0) in
     search (needs, h)
 
 add-taken : tie.Need-add-taken Inv-loop μ-loop
@@ -74,7 +74,9 @@ loop-again c =
     let here = c .before .before .before .before .before .before in
     let test = here .before .before in
     let written = c .before .before .before .before .write-line in
-    rw (c .count .ensures) (going-on (test .before .before .loop .inv) (test .before .loop-test .taken) (test .if1 .left) (here .step .result) (here .step .ensures) (written .result) (written .ensures .0) _ (written .ensures .1))
+    let so = test .before .before .loop .inv in
+    rw (c .count .ensures)
+    (going-on so (test .before .loop-test .taken) (test .if1 .left) (here .step .result) (here .step .ensures) (written .result) (written .ensures .0) _ (written .ensures .1))
 
 done-requires-2 : tie.Need-done-requires-2 Inv-loop μ-loop
 done-requires-2 c κs = search needs

@@ -25,7 +25,8 @@ returns-2 : tie.Need-returns-2
 returns-2 c =
     let test = c .before .before .before .before in
     let args = test .before .before .before .before .args in
-    list-filled (args .listing) (args .chunk .now) (args .room .now) (c .before .before .fill .result) _ (sym (test .before .carries-past .ensures) ∙ test .if1 .left) (c .before .before .fill .ensures)
+    let filled = c .before .before .fill in
+    list-filled (args .listing) (args .chunk .now) (args .room .now) (filled .result) _ (sym (test .before .carries-past .ensures) ∙ test .if1 .left) (filled .ensures)
 
 pub list-spec : {M : Type 1} → statement M
 list-spec = tie.close (tie.spec carries-past-requires returns fill-requires same-length returns-2)

@@ -26,9 +26,11 @@ is-end-requires c κs = search needs
 returns : tie.Need-returns Inv-loop μ-loop
 returns c =
     let walk = c .before .before .before .before in
+    let test = c .before .before .before .loop-test in
     let bytes = walk .before .before .args .bytes .now in
     let from = walk .before .before .args .from in
-    (walk-there isEnd bytes (from + toNext isEnd (drop from bytes)) (walk .loop .i) (walk .loop .inv .0) (c .before .before .before .loop-test .taken) (sym (c .before .is-end .ensures) ∙ c .if1 .taken), walk .loop .inv .1)
+    let way = walk .loop .inv .0 in
+    (walk-there isEnd bytes (from + toNext isEnd (drop from bytes)) (walk .loop .i) way (test .taken) (sym (c .before .is-end .ensures) ∙ c .if1 .taken), walk .loop .inv .1)
 
 add-i : tie.Need-add-i Inv-loop μ-loop
 add-i c = search needs
@@ -39,16 +41,19 @@ loop-less c = search needs
 loop-again : tie.Need-loop-again Inv-loop μ-loop
 loop-again c =
     let walk = c .before .before .before .before in
+    let test = c .before .before .before .loop-test in
     let bytes = walk .before .before .args .bytes .now in
     let from = walk .before .before .args .from in
-    (walk-on isEnd bytes (from + toNext isEnd (drop from bytes)) (walk .loop .i) (walk .loop .inv .0) (c .before .before .before .loop-test .taken) (sym (c .before .is-end .ensures) ∙ c .if1 .left), omega (arith, c .before .before .before .loop-test .taken))
+    let way = walk .loop .inv .0 in
+    (walk-on isEnd bytes (from + toNext isEnd (drop from bytes)) (walk .loop .i) way (test .taken) (sym (c .before .is-end .ensures) ∙ c .if1 .left), omega (arith, test .taken))
 
 returns-2 : tie.Need-returns-2 Inv-loop μ-loop
 returns-2 c =
     let walk = c .before in
     let bytes = walk .before .before .args .bytes .now in
     let from = walk .before .before .args .from in
-    (walk-ends isEnd bytes (from + toNext isEnd (drop from bytes)) (walk .loop .i) (walk .loop .inv .0) (c .loop-test .left), walk .loop .inv .1)
+    let way = walk .loop .inv .0 in
+    (walk-ends isEnd bytes (from + toNext isEnd (drop from bytes)) (walk .loop .i) way (c .loop-test .left), walk .loop .inv .1)
 
 pub next-end-spec : {M : Type 1} → statement M
 next-end-spec = tie.close (tie.spec Inv-loop μ-loop loop-holds shared-slice-read-is-end is-end-requires returns add-i loop-less loop-again returns-2)

@@ -26,8 +26,10 @@ shared-slice-read-if1 c = search needs
 returns : tie.Need-returns Inv-loop μ-loop
 returns c =
     let walk = c .before .before .before in
+    let test = c .before .before .loop-test in
     let bytes = walk .before .args .bytes .now in
-    (walk-there isStart bytes (toNext isStart bytes) (walk .loop .i) (walk .loop .inv .0) (c .before .before .loop-test .taken) (eq-eqb _ 13 (c .if1 .taken)), walk .loop .inv .1)
+    let way = walk .loop .inv .0 in
+    (walk-there isStart bytes (toNext isStart bytes) (walk .loop .i) way (test .taken) (eq-eqb _ 13 (c .if1 .taken)), walk .loop .inv .1)
 
 add-i : tie.Need-add-i Inv-loop μ-loop
 add-i c = search needs
@@ -38,14 +40,17 @@ loop-less c = search needs
 loop-again : tie.Need-loop-again Inv-loop μ-loop
 loop-again c =
     let walk = c .before .before .before in
+    let test = c .before .before .loop-test in
     let bytes = walk .before .args .bytes .now in
-    (walk-on isStart bytes (toNext isStart bytes) (walk .loop .i) (walk .loop .inv .0) (c .before .before .loop-test .taken) (ne-eqb _ 13 (c .if1 .left)), omega (arith, c .before .before .loop-test .taken))
+    let way = walk .loop .inv .0 in
+    (walk-on isStart bytes (toNext isStart bytes) (walk .loop .i) way (test .taken) (ne-eqb _ 13 (c .if1 .left)), omega (arith, test .taken))
 
 returns-2 : tie.Need-returns-2 Inv-loop μ-loop
 returns-2 c =
     let walk = c .before in
     let bytes = walk .before .args .bytes .now in
-    (walk-ends isStart bytes (toNext isStart bytes) (walk .loop .i) (walk .loop .inv .0) (c .loop-test .left), walk .loop .inv .1)
+    let way = walk .loop .inv .0 in
+    (walk-ends isStart bytes (toNext isStart bytes) (walk .loop .i) way (c .loop-test .left), walk .loop .inv .1)
 
 pub next-start-spec : {M : Type 1} → statement M
 next-start-spec = tie.close (tie.spec Inv-loop μ-loop loop-holds shared-slice-read-if1 returns add-i loop-less loop-again returns-2)

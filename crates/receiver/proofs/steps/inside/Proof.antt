@@ -26,7 +26,8 @@ returns c =
     let start = c .before .before .before .before in
     let ends = c .before .before .next-end in
     ap₂ (λ (r : Receiver) (n : ℕ). stepped r n Nothing) (c .grown .ensures) (all-taken (start .args .chunk .now) (ends .result) (c .before .if1 .taken) (ends .ensures .1))
-    ∙ sym (stays-open (start .args .receiver) (start .args .chunk .now) (start .pre .2) (start .pre .1) (from-first (start .args .chunk .now) (ends .result) (c .before .if1 .taken) (ends .ensures .0)))
+    ∙ sym (stays-open (start .args .receiver) (start .args .chunk .now) (start .pre .2) (start .pre .1)
+    (from-first (start .args .chunk .now) (ends .result) (c .before .if1 .taken) (ends .ensures .0)))
 
 add-here : tie.Need-add-here
 add-here c = search needs
