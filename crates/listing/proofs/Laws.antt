@@ -90,7 +90,8 @@ kinds-are (e ∷ es) =
     let one : isOk (e .event) + (isRefused (e .event) + (isDropped (e .event) + isOpen (e .event))) ≡ 1 = one-kind (e .event) in
     omega arith
 
-as-many : (xs : List ℕ) (from : ℕ) → length (eventsFrom from xs) ≡ thirteens xs
+-- each 13 has one event
+pub as-many : (xs : List ℕ) (from : ℕ) → length (eventsFrom from xs) ≡ thirteens xs
 unfolding thirteens
 as-many [] from = ap length (events-none from)
 as-many (b ∷ xs) from = ap length (events-cons from b xs) ∙ go (eqb b 13) (as-many xs (suc from))

@@ -2,12 +2,13 @@
 -- Assumes nothing.
 -- ---- "each frame's line is defined": one event for each 13, in order of its place, and nothing else has one
 pub use Rattle.listing.proofs.Laws.{every-13, only-13s, rising, open-once, too-long, is-read}
-pub use Rattle.receiver.proofs.Laws.{passed-over, kept-most}
+pub use Rattle.receiver.proofs.Laws.{passed-over}
+pub use Rattle.receiver.proofs.Chunks.{chunk-lines, chunk-kept}
 -- "however the bytes were cut, gives the same lines in order and the same open frame at the end as one reading of all bytes joined"
 pub use Rattle.receiver.proofs.Chunks.{same-reading, same-cuts}
 pub use Rattle.listing.proofs.Laws.{from-place}
 -- "60, ahead of all, when a chunk would carry the place past the largest; none of it is taken"
-pub use Rattle.receiver.proofs.Laws.{tests-right, refused-untouched}
+pub use Rattle.receiver.proofs.Laws.{tests-right, refused-untouched, step-forward}
 pub use Rattle.lister.proofs.Laws.{list-untouched}
 -- "totals made up (they equal the numbers of such lines)"; ok, refused and dropped, and 1 where one is open, are the number of 13s
 pub use Rattle.lister.proofs.Whole.{totals-are}

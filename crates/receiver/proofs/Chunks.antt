@@ -11,6 +11,8 @@ use borrow.Author.Tests.{le-ltb}
 use lib.ListN.{length, drop, length-append, length-drop}
 use Rattle.lines.specs.declared.Placed.{Placed}
 use Rattle.listing.specs.Events.{eventsFrom}
+use Rattle.listing.specs.Places.{thirteens}
+use Rattle.listing.proofs.Laws.{as-many}
 use Rattle.receiver.specs.declared.Receiver.{Receiver}
 use Rattle.receiver.specs.declared.Answer.{Answer}
 use Rattle.receiver.specs.declared.Stepped.{Stepped}
@@ -19,6 +21,7 @@ use Rattle.receiver.specs.Chunks.{lineIn, openLine, Run, steps, feed, jo
 use Rattle.receiver.specs.Parts.{Fits, Held}
 use Rattle.receiver.proofs.Kept.{length-none}
 use Rattle.receiver.proofs.Goes.{next-place, on-or-end, step-cons, step-none, step-goes, step-takes}
+use Rattle.receiver.proofs.Laws.{kept-most}
 use Rattle.receiver.proofs.Same.{expected, expected-first, expected-end, behindBytes, from-bytes, next-held, Moved, not-moved, moved-byte, moved-then, moved-joined}
 
 -- ---- a step
@@ -126,3 +129,11 @@ same-cuts place a b e fits =
     let p = same-reading place a fits in
     let q = same-reading place b (rw (← e) fits) in
     (p .same-receiver ∙ ap (receiverOf place) e ∙ sym (q .same-receiver), p .same-lines ∙ ap (eventsFrom place) e ∙ sym (q .same-lines))
+
+-- each 13 has one line, and no more than 494 bytes of a frame are kept, whatever chunks came
+pub chunk-lines : (place : ℕ) (chunks : List (List ℕ)) → place + length (joined chunks) ≤ largest
+    → length (feed (outsideAt place) chunks .lines ++ openLine (feed (outsideAt place) chunks .receiver)) ≡ thirteens (joined chunks)
+chunk-lines place chunks fits = ap length (same-reading place chunks fits .same-lines) ∙ as-many (joined chunks) place
+
+pub chunk-kept : (place : ℕ) (chunks : List (List ℕ)) → place + length (joined chunks) ≤ largest → feed (outsideAt place) chunks .receiver .size ≤ 494
+chunk-kept place chunks fits = rw (same-reading place chunks fits .same-receiver) (kept-most place (joined chunks))

@@ -5,7 +5,7 @@ use mathlib.Core.Bool.{Bool, true, false, cond, _&&_}
 use mathlib.Core.List.{List, [], _∷_}
 use mathlib.Core.Logic.{⊎-elim}
 use mathlib.Core.Option.{Option, some, none}
-use Prim.Native.Nat.{ℕ, suc, _+_, _≤_}
+use Prim.Native.Nat.{ℕ, suc, _+_, _≤_, _<_}
 use native.Mathlib.Nat.{min-le-left}
 use native.Mathlib.Omega.{arith}
 use borrow.Author.Tests.{lt-ltb}
@@ -24,7 +24,7 @@ use Rattle.receiver.specs.declared.Stepped.{Stepped}
 use Rattle.receiver.specs.Receiver.{largest, passed, next, told, stepped, stepFrom, CarriesPast, stepRows, stepTests, stepRefusal, stepAnswer, stepOf, stepTold, faultNumber}
 use Rattle.receiver.specs.Receiver.{Numbers, Tests, Starts, Steps}
 use Rattle.receiver.specs.Chunks.{insideAt, receiverOf}
-use Rattle.receiver.proofs.Goes.{on-or-end, step-cons, step-none}
+use Rattle.receiver.proofs.Goes.{on-or-end, step-cons, step-none, step-goes, step-takes}
 use Rattle.receiver.proofs.Stretches.{told-outside, next-outside}
 
 -- ---- 60: "Each is given exactly when its condition holds"
@@ -74,6 +74,16 @@ step-refusal-keeps r chunk s f steps refused = by (stepRefusal r chunk) steps
         let told : stepTold (s .answer) ≡ none = ap (λ (s : Stepped). stepTold (s .answer)) e ∙ no-number r chunk in
         let number : stepTold (s .answer) ≡ some (faultNumber f) = ap stepTold refused in
         clash (cc)
+
+-- a step that is not refused stays in the chunk, moves the place by what it took, and takes something where there is something
+pub step-forward : (r : Receiver) (chunk : List ℕ) (s : Stepped) → Steps r chunk s → stepTold (s .answer) ≡ none
+    → (s .taken ≤ length chunk) × (s .receiver .place ≡ r .place + s .taken) × (0 < length chunk → 0 < s .taken)
+unfolding stepOf
+step-forward r chunk s steps told = by (stepRefusal r chunk) steps
+  where
+    by : (o : Option Fault) → s ≡ stepAnswer o r (stepFrom r chunk) → (s .taken ≤ length chunk) × (s .receiver .place ≡ r .place + s .taken) × (0 < length chunk → 0 < s .taken)
+    by (some g) e = let number : stepTold (s .answer) ≡ some (faultNumber g) = ap (λ (s : Stepped). stepTold (s .answer)) e in clash (cc)
+    by none e = rw e (step-goes r chunk .0, step-goes r chunk .1, step-takes r chunk)
 
 -- ---- 01: "Bytes outside a frame are passed over."
 
