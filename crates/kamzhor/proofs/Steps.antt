@@ -13,6 +13,9 @@ use lib.ListN.{length}
 use Rattle.rows.specs.Rows.{passedUp, raised, Numbered}
 use Rattle.rows.proofs.Laws.{numbered}
 use Rattle.telegram.specs.Read.{readFrame}
+use Rattle.telegram.specs.Read as telegram
+use Rattle.telegram.specs.declared.Fault.{Fault as Unreadable}
+use Rattle.telegram.specs.declared.Fields.{Fields}
 use Rattle.telegram.specs.declared.Fault.the-variants.{LongMessage}
 use Rattle.telegram.specs.declared.Reading.{Reading}
 use Rattle.telegram.specs.declared.Reading.the-variants as reading
@@ -29,7 +32,7 @@ use Rattle.receiver.specs.declared.Answer.the-variants.{Nothing, Line, Refused}
 use Rattle.receiver.specs.declared.Stepped.{Stepped}
 use Rattle.receiver.proofs.Laws.{step-ranked}
 use Rattle.receiver.proofs.Goes.{step-goes, step-takes}
-use Rattle.kamzhor.specs.Host.{GivesStep, told, lineKind, noLine, answerGiven, stepGiven}
+use Rattle.kamzhor.specs.Host.{GivesStep, told, frameNumber, lineKind, noLine, answerGiven, stepGiven}
 use Rattle.kamzhor.specs.declared.StepAnswer.{StepAnswer}
 
 -- ---- a step that goes on is not refused on its way, and its line's frame was read, refused or dropped
@@ -137,3 +140,24 @@ step-moves r chunk g any =
   where
     never : (f : Fault) → faultNumber f ≡ 0 → 0 < 0
     never PastLargest e = absurd (omega arith)
+
+-- ---- what each answer says: nothing, a telegram, a refused frame, a dropped one
+
+module _ (r : Receiver) (chunk : List ℕ) {a : StepAnswer} (gives : GivesStep r chunk a) where
+  given : {what : Answer} → stepOf r chunk .answer ≡ what → a ≡ answerGiven (stepOf r chunk .receiver) (stepOf r chunk .taken) what
+  given e = gives ∙ ap (answerGiven (stepOf r chunk .receiver) (stepOf r chunk .taken)) e
+
+  pub line-none : stepOf r chunk .answer ≡ Nothing → (a .refusal ≡ 0) × (a .line ≡ 0) × (a .place ≡ 0) × (a .frame ≡ frameNumber 0)
+  line-none e = rw (given e) (refl, refl, refl, refl)
+
+  pub line-read : (place : ℕ) (t : Fields) → stepOf r chunk .answer ≡ Line (placed place (event.Read t)) → (a .refusal ≡ 0) × (a .line ≡ 1) × (a .place ≡ place)
+      × (a .frame ≡ record { refusal = 0; destination = t .destination; source = t .source; sort = t .sort; register = t .register; size = t .size; place = 0 })
+  line-read place t e = rw (given e) (refl, refl, refl, refl)
+
+  pub line-refused : (place : ℕ) (f : Unreadable) → stepOf r chunk .answer ≡ Line (placed place (event.Refused f))
+      → (a .refusal ≡ 0) × (a .line ≡ 2) × (a .place ≡ place) × (a .frame ≡ frameNumber (telegram.faultNumber f))
+  line-refused place f e = rw (given e) (refl, refl, refl, refl)
+
+  pub line-dropped : (place : ℕ) → stepOf r chunk .answer ≡ Line (placed place event.Dropped)
+      → (a .refusal ≡ 0) × (a .line ≡ 3) × (a .place ≡ place) × (a .frame ≡ frameNumber 0)
+  line-dropped place e = rw (given e) (refl, refl, refl, refl)

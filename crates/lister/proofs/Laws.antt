@@ -3,13 +3,14 @@
 use mathlib.Core.Path.{_≡_, refl, sym, ap, _∙_}
 use mathlib.Core.Bool.{Bool, true, false, cond}
 use mathlib.Core.List.{List, [], _∷_, _++_}
+use mathlib.Core.Logic.{_⊎_, inl, inr}
 use mathlib.Core.Option.{Option, some, none}
-use Prim.Native.Nat.{ℕ, _+_, _-_, _≤_, _<_}
+use Prim.Native.Nat.{ℕ, suc, _+_, _-_, _≤_, _<_}
 use native.Mathlib.Nat.{add-zero}
 use native.Mathlib.Omega.{arith}
-use borrow.Author.Tests.{lt-ltb, le-ltb, ltb-false}
+use borrow.Author.Tests.{lt-ltb, le-ltb, ltb-true, ltb-false}
 use lib.Dec.{ltb}
-use lib.ListN.{length, length-append}
+use lib.ListN.{length, drop, length-append}
 use Rattle.rows.specs.Rows.{passedUp, raised, Numbered}
 use Rattle.rows.specs.Settled.{Settled}
 use Rattle.rows.proofs.Laws.{numbered, clash, first-false}
@@ -25,7 +26,7 @@ use Rattle.lister.specs.declared.Listing.{Listing}
 use Rattle.lister.specs.declared.Listed.{Listed}
 use Rattle.lister.specs.declared.Outcome.the-variants as outcome
 use Rattle.lister.specs.declared.Outcome.the-variants.{Done}
-use Rattle.lister.specs.Text.{longestLine, Poured, poured, behind, textTold, onward, pour, pourAnswer, pourOf, listOutcome, listTold, listed, Begins, Lists}
+use Rattle.lister.specs.Text.{longestLine, Poured, poured, behind, textTold, onward, carried, pour, pourAnswer, pourOf, listOutcome, listTold, listed, Begins, Lists}
 use Rattle.lister.proofs.Pouring.{lines-short}
 
 -- ---- what `list` writes fits the room, and what it takes is of the chunk
@@ -81,6 +82,35 @@ list-moves l chunk room r room′ p any space done =
     by (some f) e = clash (cc)
     by none e = pour-moves l (length room) chunk any space
 
+abbrev Stops : ℕ → List ℕ → Poured → Type 0
+Stops room chunk p = (p .taken ≡ length chunk) ⊎ (room - length (p .text) < longestLine)
+
+pour-stops : (l : Listing) (room : ℕ) (chunk : List ℕ) → Stops room chunk (pour l room chunk)
+unfolding pour
+pour-stops l room [] = inl refl
+pour-stops l room (b ∷ rest) =
+    go (ltb room longestLine) refl (pour (onward l b) (room - length (textTold l b)) rest) (pour-stops (onward l b) (room - length (textTold l b)) rest)
+  where
+    go : (t : Bool) → ltb room longestLine ≡ t → (later : Poured) → Stops (room - length (textTold l b)) rest later
+        → Stops room (b ∷ rest) (cond t (poured l 0 []) (behind 1 (textTold l b) later))
+    go true e later s = let h : room < longestLine = ltb-true room longestLine e in inr (omega arith)
+    go false e later (inl s) = inl (omega arith)
+    go false e later (inr s) =
+        let long : length (textTold l b ++ later .text) ≡ length (textTold l b) + length (later .text) = length-append (textTold l b) (later .text) in
+        inr (omega arith)
+
+-- a call goes on to the chunk's end, or until what is left of the room holds no line
+pub list-stops : (l : Listing) (chunk room : List ℕ) (r : Listed) (room′ : List ℕ) → Lists l chunk room r room′ → r .outcome ≡ Done
+    → (r .taken ≡ length chunk) ⊎ (length room - r .size < longestLine)
+unfolding pourOf
+list-stops l chunk room r room′ p done =
+    rw (ap (λ (r : Listed). r .taken) (p .0), ap (λ (r : Listed). r .size) (p .0))
+    (by (stepRefusal (l .receiver) chunk) (sym (ap (λ (r : Listed). r .outcome) (p .0)) ∙ done))
+  where
+    by : (f : Option Fault) → listOutcome f ≡ Done → Stops (length room) chunk (pourAnswer f l (pour l (length room) chunk))
+    by (some f) e = clash (cc)
+    by none e = pour-stops l (length room) chunk
+
 -- ---- the place moves on by what is taken
 
 abbrev PlaceBy : Listing → Poured → Type 0
@@ -119,6 +149,33 @@ module _ (l : Listing) (chunk room room′ : List ℕ) (r : Listed) (lists : Lis
       by : (o : Option Fault) → listOutcome o ≡ Done → o ≡ none
       by (some f) e = clash cc
       by none e = refl
+
+-- ---- the listing behind some bytes, whatever rooms there were
+
+pour-carries : (l : Listing) (room : ℕ) (chunk : List ℕ) → carried (pour l room chunk .listing) (drop (pour l room chunk .taken) chunk) ≡ carried l chunk
+unfolding pour carried
+pour-carries l room [] = refl
+pour-carries l room (b ∷ rest) = go (ltb room longestLine) (pour-carries (onward l b) (room - length (textTold l b)) rest)
+  where
+    later : Poured
+    later = pour (onward l b) (room - length (textTold l b)) rest
+
+    one-more : (n : ℕ) → 1 + n ≡ suc n
+    one-more n = omega arith
+
+    go : (t : Bool) → carried (later .listing) (drop (later .taken) rest) ≡ carried (onward l b) rest
+        → carried (cond t (poured l 0 []) (behind 1 (textTold l b) later) .listing) (drop (cond t (poured l 0 []) (behind 1 (textTold l b) later) .taken) (b ∷ rest)) ≡ carried l (b ∷ rest)
+    go true ih = refl
+    go false ih = rw (one-more (later .taken)) ih
+
+-- what a call leaves of the chunk carries its listing to where the chunk carries the one before it
+pub list-carries : (l : Listing) (chunk room : List ℕ) (r : Listed) (room′ : List ℕ) → Lists l chunk room r room′ → carried (r .listing) (drop (r .taken) chunk) ≡ carried l chunk
+unfolding pourOf
+list-carries l chunk room r room′ lists = rw (ap (λ (r : Listed). r .listing) (lists .0), ap (λ (r : Listed). r .taken) (lists .0)) (by (stepRefusal (l .receiver) chunk))
+  where
+    by : (o : Option Fault) → carried (pourAnswer o l (pour l (length room) chunk) .listing) (drop (pourAnswer o l (pour l (length room) chunk) .taken) chunk) ≡ carried l chunk
+    by (some f) = refl
+    by none = pour-carries l (length room) chunk
 
 -- ---- 60: "Each is given exactly when its condition holds"
 

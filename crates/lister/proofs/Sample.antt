@@ -3,14 +3,17 @@
 use mathlib.Core.Path.{_≡_, refl}
 use mathlib.Core.List.{List, [], _∷_, _++_}
 use Prim.Native.Nat.{ℕ}
+use native.Mathlib.Omega.{arith}
 use Rattle.lent.specs.Lent.{over, overAt}
 use Rattle.frame.specs.Frame.{messageOf, between, restored}
 use Rattle.telegram.specs.Read.{readFrame, readRefusal, messageRefusal, fieldsOf, hasStrayEnd, hasBadSubstitution}
 use Rattle.text.specs.Text.{ascii, newline, decimal, decimalBy}
-use Rattle.lines.specs.Lines.{lineText, totalsText, endingText}
+use Rattle.lines.specs.Lines.{headerText, lineText, totalsText, endingText}
 use Rattle.listing.specs.Events.{frameEvent, total}
-use Rattle.listing.specs.Listing.{linesText}
+use Rattle.listing.specs.Listing.{linesText, listingText}
 use Rattle.receiver.specs.Receiver.{noBytes, next, closing, told, stepRefusal}
+use Rattle.receiver.specs.Chunks.{joined}
+use Rattle.lister.proofs.Whole.{listed}
 use Rattle.lister.specs.Text.{beginAt, pour, pourOf, pours, poursAll, endText}
 
 -- 0D A2 0F 03 0D and then 30 48 2F 0A 0D: the second 13 drops the first frame, the third is open at the end
@@ -31,3 +34,9 @@ pub end-text : endText (poursAll (λ place. 150) (beginAt 0) (first ∷ [] ∷ s
 unfolding messageOf between restored readFrame readRefusal messageRefusal fieldsOf hasStrayEnd hasBadSubstitution over overAt frameEvent
     noBytes next closing told stepRefusal pour pourOf pours poursAll linesText lineText totalsText endingText decimal decimalBy total
 end-text = refl
+
+-- the whole by the law: its premises can be met
+pub listed-here : headerText ++ (poursAll (λ place. 150) (beginAt 0) (first ∷ [] ∷ second ∷ []) .text ++ endText (poursAll (λ place. 150) (beginAt 0) (first ∷ [] ∷ second ∷ []) .listing))
+    ≡ listingText (first ++ second)
+unfolding joined
+listed-here = listed (λ place. 150) (λ n. omega arith) (first ∷ [] ∷ second ∷ []) (omega arith)

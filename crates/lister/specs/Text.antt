@@ -66,6 +66,11 @@ textTold l b = linesText (lineIn (told (l .receiver) b))
 abbrev pub onward : Listing → ℕ → Listing
 onward l b = counted l (lineIn (told (l .receiver) b)) (next (l .receiver) b)
 
+-- the listing behind some bytes
+unfoldable pub carried : Listing → List ℕ → Listing
+carried l [] = l
+carried l (b ∷ rest) = carried (onward l b) rest
+
 unfoldable pub pour : Listing → ℕ → List ℕ → Poured
 pour l room [] = poured l 0 []
 pour l room (b ∷ rest) = cond (ltb room longestLine) (poured l 0 []) (behind 1 (textTold l b) (pour (onward l b) (room - length (textTold l b)) rest))

@@ -3,7 +3,7 @@
 use mathlib.Core.Path.{_≡_}
 use mathlib.Core.Bool.{cond}
 use mathlib.Core.List.{List, [], _∷_}
-use mathlib.Core.Logic.{_⊎_}
+use mathlib.Core.Logic.{_≢_, _⊎_}
 use Prim.Native.Nat.{ℕ, suc, _+_, _≤_, _<_}
 use lib.Dec.{eqb}
 use lib.ListN.{length, getD, drop}
@@ -23,6 +23,11 @@ RisingFrom n (e ∷ rest) = (n ≤ e .place) × RisingFrom (suc (e .place)) rest
 -- an event of these bytes, the first of which stands at a place: that of one of their 13s, as the bytes after it decide
 abbrev pub Of13 : List ℕ → ℕ → Placed → Type 0
 Of13 xs from e = (i : ℕ) × (e .place ≡ from + i) × (i < length xs) × (getD xs i 0 ≡ 13) × (e .event ≡ eventOf (drop (i + 1) xs))
+
+-- no 10 and no 13 among these
+abbrev pub NoEnd : List ℕ → Type 0
+NoEnd [] = Unit {0}
+NoEnd (b ∷ rest) = (b ≢ 10) × (b ≢ 13) × NoEnd rest
 
 -- how many 13s there are
 unfoldable pub thirteens : List ℕ → ℕ

@@ -5,14 +5,15 @@ use mathlib.Core.Bool.{Bool, true, false, true≢false}
 use mathlib.Core.List.{List}
 use Prim.Native.Nat.{ℕ, _+_, _-_, _≤_, _<_}
 use native.Mathlib.Omega.{arith}
-use lib.ListN.{length, take, drop, length-drop}
+use lib.ListN.{length, take, drop, length-drop, drop-of-length-le}
+use lib.Seq.{drop-drop}
 use Rattle.lent.proofs.Laws.{length-over}
 use Rattle.lister.specs.declared.Listing.{Listing}
 use Rattle.lister.specs.declared.Listed.{Listed}
 use Rattle.lister.specs.declared.Outcome.the-variants.{Done}
 use Rattle.receiver.specs.Receiver.{largest}
-use Rattle.lister.specs.Text.{longestLine, Lists}
-use Rattle.lister.proofs.Laws.{list-within, list-moves, list-place, list-fits}
+use Rattle.lister.specs.Text.{longestLine, carried, Lists}
+use Rattle.lister.proofs.Laws.{list-within, list-moves, list-place, list-fits, list-carries}
 use Rattle.lister.proofs.Pouring.{all-left}
 
 -- ---- the loop over a piece: so much of it was taken, and the place moved on by as much
@@ -22,6 +23,7 @@ pub record Coming (piece room₀ : List ℕ) (l₀ : Listing) (room : List ℕ) 
   pub in-piece : taken ≤ length piece
   pub moved : l .receiver .place ≡ l₀ .receiver .place + taken
   pub in-places : 0 < taken → l .receiver .place ≤ largest
+  pub carries : carried l (drop taken piece) ≡ carried l₀ piece
 
 module _ {piece room₀ : List ℕ} {l₀ : Listing} {room : List ℕ} {l : Listing} {taken : ℕ} (so-far : Coming piece room₀ l₀ room l taken)
     (r : Listed) (room′ : List ℕ) (lists : Lists l (take (length piece - taken) (drop taken piece)) room r room′) where
@@ -44,17 +46,24 @@ module _ {piece room₀ : List ℕ} {l₀ : Listing} {room : List ℕ} {l : List
   coming under done =
       let on = list-place l (take (length piece - taken) (drop taken piece)) room room′ r lists in
       let fits = list-fits l (take (length piece - taken) (drop taken piece)) room room′ r lists done in
+      let further : carried (r .listing) (drop (r .taken) (drop taken piece)) ≡ carried l (drop taken piece) =
+      rw (all-left taken piece) at (list-carries l (take (length piece - taken) (drop taken piece)) room r room′ lists) in
       record {
         room-long = same-room;
         in-piece = omega (arith, within .1);
         moved = omega (arith, on, so-far .moved);
         in-places = λ _. omega (arith, on, fits, left, within .1);
+        carries = ap (carried (r .listing)) (sym (drop-drop (r .taken) taken piece)) ∙ further ∙ so-far .carries;
       }
 
 -- all of it was taken
 pub all-taken : {piece room₀ : List ℕ} {l₀ : Listing} {room : List ℕ} {l : Listing} {taken : ℕ} → Coming piece room₀ l₀ room l taken → length piece ≤ taken → 0 < length piece
     → (l₀ .receiver .place < l .receiver .place) × (l .receiver .place ≤ largest)
 all-taken so-far done some-bytes = (omega (arith, so-far .moved), so-far .in-places (omega arith))
+
+pub all-carried : {piece room₀ : List ℕ} {l₀ : Listing} {room : List ℕ} {l : Listing} {taken : ℕ} → Coming piece room₀ l₀ room l taken → length piece ≤ taken → l ≡ carried l₀ piece
+unfolding carried
+all-carried {piece} {l = l} {taken} so-far done = ap (carried l) (sym (drop-of-length-le piece {i = taken} done)) ∙ so-far .carries
 
 -- what is over owes nothing
 pub is-over : {A : Type 0} {over : Bool} → over ≡ true → over ≡ false → A

@@ -4,7 +4,7 @@ use libc::STDIN_FILENO;
 use libc::STDOUT_FILENO;
 use lister::Listing;
 use lister::Outcome;
-ghost use Rattle.night.specs.Turns.{Onward};
+ghost use Rattle.night.specs.Turns.{Onward, Carries};
 ghost use mathlib.Core.Path.{_≡_};
 ghost use mathlib.Core.Bool.{true};
 ghost use Prim.Native.Nat.{_≤_, _<_};
@@ -71,7 +71,7 @@ fn read_on(listing: Listing, piece: &mut [u8], room: &mut [u8]) -> Turn
 // The lines of a piece, a room full at a time, each written at once.
 fn list(listing: Listing, piece: &[u8], room: &mut [u8]) -> Turn
     requires { ⌜ (150 ≤ length (now room)) × (0 < length (now piece)) ⌝ }
-    ensures { λ r. ⌜ Onward listing r × (length (now (room .exit)) ≡ length (now (room .entry))) ⌝ }
+    ensures { λ r. ⌜ Onward listing r × (length (now (room .exit)) ≡ length (now (room .entry))) × Carries listing (now (piece .entry)) r ⌝ }
 {
     let mut so_far = listing;
     let mut taken = 0;

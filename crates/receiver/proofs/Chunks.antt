@@ -8,11 +8,11 @@ use native.Mathlib.Nat.{add-zero, not-suc-le-zero, le-of-eq}
 use native.Mathlib.Numerals.{add-one}
 use native.Mathlib.Omega.{arith}
 use borrow.Author.Tests.{le-ltb}
-use lib.ListN.{length, drop, length-append, length-drop}
+use lib.ListN.{length, getD, drop, length-append, length-drop}
 use Rattle.lines.specs.declared.Placed.{Placed}
-use Rattle.listing.specs.Events.{eventsFrom}
-use Rattle.listing.specs.Places.{thirteens}
-use Rattle.listing.proofs.Laws.{as-many}
+use Rattle.listing.specs.Events.{placed, eventOf, eventsFrom, eventsOf}
+use Rattle.listing.specs.Places.{In, thirteens}
+use Rattle.listing.proofs.Laws.{as-many, every-13}
 use Rattle.receiver.specs.declared.Receiver.{Receiver}
 use Rattle.receiver.specs.declared.Answer.{Answer}
 use Rattle.receiver.specs.declared.Stepped.{Stepped}
@@ -130,7 +130,13 @@ same-cuts place a b e fits =
     let q = same-reading place b (rw (← e) fits) in
     (p .same-receiver ∙ ap (receiverOf place) e ∙ sym (q .same-receiver), p .same-lines ∙ ap (eventsFrom place) e ∙ sym (q .same-lines))
 
--- each 13 has one line, and no more than 494 bytes of a frame are kept, whatever chunks came
+-- and each 13 has its own line, as the bytes behind it decide, whatever chunks they came in
+pub chunk-13s : (chunks : List (List ℕ)) → length (joined chunks) ≤ largest → (i : ℕ) → i < length (joined chunks) → getD (joined chunks) i 0 ≡ 13
+    → In (placed (0 + i) (eventOf (drop (i + 1) (joined chunks)))) (feed (outsideAt 0) chunks .lines ++ openLine (feed (outsideAt 0) chunks .receiver))
+unfolding eventsOf
+chunk-13s chunks fits i h e = rw (same-reading 0 chunks (omega arith) .same-lines) (every-13 (joined chunks) i h e)
+
+-- so there are as many lines as 13s, and no more than 494 bytes of a frame are kept, whatever chunks came
 pub chunk-lines : (place : ℕ) (chunks : List (List ℕ)) → place + length (joined chunks) ≤ largest
     → length (feed (outsideAt place) chunks .lines ++ openLine (feed (outsideAt place) chunks .receiver)) ≡ thirteens (joined chunks)
 chunk-lines place chunks fits = ap length (same-reading place chunks fits .same-lines) ∙ as-many (joined chunks) place

@@ -4,7 +4,7 @@ use Prim.Native.Nat.{_-_}
 use native.Mathlib.Nat.{add-zero}
 use native.Mathlib.Omega.{arith}
 use lib.ListN.{length}
-use Rattle.night.proofs.Laws.{Coming, same-room, within, less, coming, all-taken, is-over}
+use Rattle.night.proofs.Laws.{Coming, same-room, within, less, coming, all-taken, all-carried, is-over}
 use Rattle.night.proofs.list.Statement.{statement}
 use Rattle.night.proofs.list.Tie as tie
 
@@ -15,7 +15,7 @@ abbrev μ-loop : tie.MeasureT-loop
 μ-loop piece room₀ so-far₀ taken₀ room so-far taken = length piece - taken
 
 loop-holds : tie.Need-loop-holds Inv-loop μ-loop
-loop-holds c = record { room-long = refl; in-piece = omega arith; moved = sym (add-zero _); in-places = λ z. absurd (omega arith) }
+loop-holds c = record { room-long = refl; in-piece = omega arith; moved = sym (add-zero _); in-places = λ z. absurd (omega arith); carries = refl }
 
 sub-list : tie.Need-sub-list Inv-loop μ-loop
 sub-list c = search needs
@@ -44,7 +44,7 @@ same-length c = search needs
 returns : tie.Need-returns Inv-loop μ-loop
 returns c =
     let s = c .before .before .before .before .before in
-    (is-over (c .unread .ensures), same-room (s .before .before .before .before .loop .inv) (s .list .result) (s .list .last .1 .1 .0) (s .list .ensures))
+    (is-over (c .unread .ensures), same-room (s .before .before .before .before .loop .inv) (s .list .result) (s .list .last .1 .1 .0) (s .list .ensures), is-over (c .unread .ensures))
 
 sub-write-all : tie.Need-sub-write-all Inv-loop μ-loop
 sub-write-all c = search needs
@@ -70,7 +70,7 @@ same-length-2 c = search needs
 returns-2 : tie.Need-returns-2 Inv-loop μ-loop
 returns-2 c =
     let s = c .before .before .before .before .before .before .before .before .before in
-    (is-over (c .over .ensures), same-room (s .before .before .before .before .loop .inv) (s .list .result) (s .list .last .1 .1 .0) (s .list .ensures))
+    (is-over (c .over .ensures), same-room (s .before .before .before .before .loop .inv) (s .list .result) (s .list .last .1 .1 .0) (s .list .ensures), is-over (c .over .ensures))
 
 add-taken : tie.Need-add-taken Inv-loop μ-loop
 add-taken c =
@@ -99,7 +99,7 @@ same-length-3 c = search needs
 returns-3 : tie.Need-returns-3 Inv-loop μ-loop
 returns-3 c =
     let so-far = c .before .loop .inv in
-    (λ _. all-taken so-far (c .loop-test .left) (c .before .before .before .before .pre .1), so-far .room-long)
+    (λ _. all-taken so-far (c .loop-test .left) (c .before .before .before .before .pre .1), so-far .room-long, λ _. all-carried so-far (c .loop-test .left))
 
 pub list-spec : {M : Type 1} → statement M
 list-spec =
