@@ -14,12 +14,13 @@ use Rattle.lines.specs.declared.Event.the-variants.{Read, Refused, Dropped, Ope
 use Rattle.lines.specs.declared.Placed.{Placed}
 use Rattle.telegram.specs.declared.Reading.the-variants as reading
 
--- "The reader has 240 bytes of room here."
+-- what the frame reader says
 abbrev pub readEvent : Reading → Event
 readEvent (reading.Telegram t) = Read t
 readEvent (reading.Refused f) = Refused f
 
--- the event of a frame that a 10 closed: 02's #101, "a frame over 494 bytes is refused 5, ahead of numbers 2 to 4"
+-- the event of a frame that a 10 closed: 02's #101, "a frame over 494 bytes is refused 5, ahead of numbers 2 to 4".
+-- "The reader has 240 bytes of room here."
 unfoldable pub frameEvent : List ℕ → Event
 frameEvent frame = cond (ltb 494 (length frame)) (Refused LongMessage) (readEvent (readFrame frame 240))
 
