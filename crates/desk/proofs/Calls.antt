@@ -33,7 +33,8 @@ use Rattle.desk.specs.Close.{isTheirs, cancelRefusal, duePlace, expireRe
 use Rattle.desk.specs.Open.{placeFrom, distanceOf, givenPlace, requestAt, openRefusal, withTicket, OpensAt, PlacesAt, Opens}
 use Rattle.desk.specs.Reply.{bookRefusal, replyRefusal}
 use Rattle.desk.specs.Desk.{ticketAt, ticketOn}
-use Rattle.ticket.specs.Ticket.{noTicket, isFree, newTicket}
+use Rattle.ticket.specs.Rest.{isFree}
+use Rattle.ticket.specs.Ticket.{noTicket, newTicket}
 use Rattle.request.specs.declared.Request.{Request}
 use Rattle.ticket.specs.declared.Ticket.{Ticket}
 use Rattle.desk.specs.declared.Desk.{Desk}
@@ -57,20 +58,20 @@ pub end-none : (fits : ℕ → Bool) (k : ℕ) → k ≤ 95 → 95 ≤ k → ((i
 end-none fits k below above before = let e : k ≡ 95 = omega arith in e ∙ sym (first-none fits 95 (rw e at before))
 
 -- the search from the turn has come to a free place
-pub free-found : (desk : Desk) (k : ℕ) → k < 95 → ((i : ℕ) → i < k → isFree (ticketAt desk (placeFrom (desk .turn) i)) ≡ false)
-    → isFree (ticketAt desk (placeFrom (desk .turn) k)) ≡ true → k ≡ distanceOf desk
+pub free-found : (desk : Desk) (clock k : ℕ) → k < 95 → ((i : ℕ) → i < k → isFree clock (ticketAt desk (placeFrom (desk .turn) i)) ≡ false)
+    → isFree clock (ticketAt desk (placeFrom (desk .turn) k)) ≡ true → k ≡ distanceOf desk clock
 unfolding distanceOf
-free-found desk k h before free = sym (first-at (λ i. isFree (ticketAt desk (placeFrom (desk .turn) i))) 95 k h before free)
+free-found desk clock k h before free = sym (first-at (λ i. isFree clock (ticketAt desk (placeFrom (desk .turn) i))) 95 k h before free)
 
 -- ---- opening
 
-pub open-denied : (desk : Desk) (asked : Request) (bytes : List ℕ) (room : ℕ) (f : Asked) → askRefusal asked bytes ≡ some f
-    → openRefusal desk asked bytes room ≡ some (Denied f)
+pub open-denied : (desk : Desk) (asked : Request) (bytes : List ℕ) (clock room : ℕ) (f : Asked) → askRefusal asked bytes ≡ some f
+    → openRefusal desk asked bytes clock room ≡ some (Denied f)
 unfolding openRefusal
-open-denied desk asked bytes room f e = rw e
+open-denied desk asked bytes clock room f e = rw e
 
 pub open-allowed : (desk : Desk) (asked : Request) (bytes : List ℕ) (clock : ℕ) (room : List ℕ) (r : AfterOpen) (room′ : List ℕ) (d : ℕ)
-    → askRefusal asked bytes ≡ none → d ≡ distanceOf desk
+    → askRefusal asked bytes ≡ none → d ≡ distanceOf desk clock
     → PlacesAt desk d asked bytes clock room r room′ → Opens desk asked bytes clock room r room′
 unfolding openRefusal givenPlace
 open-allowed desk asked bytes clock room r room′ d e far p = rw e (rw far at p)

@@ -2,7 +2,7 @@
 -- Ranking.antt, and what holds over many calls in the crate `nights`.
 -- Assumes nothing.
 use mathlib.Core.Path.{_≡_, refl, sym, ap, ap₂, _∙_}
-use mathlib.Core.Bool.{Bool, true, false, cond, not, _&&_}
+use mathlib.Core.Bool.{Bool, true, false, cond, not, _&&_, true≢false}
 use mathlib.Core.List.{List, [], _∷_}
 use mathlib.Core.Logic.{_≢_}
 use mathlib.Core.Option.{some, none}
@@ -36,11 +36,12 @@ use Rattle.telegram.specs.declared.Fault.{Fault as Unreadable}
 use Rattle.ticket.proofs.Laws.{fitting, decides-due, decides-free}
 use Rattle.ticket.specs.Due.{IsDue}
 use Rattle.ticket.specs.Fit.{KindFits, RegisterFits, fitRefusal}
-use Rattle.ticket.specs.Ticket.{Free, isFree, noTicket, newTicket}
+use Rattle.ticket.specs.Rest.{isFree}
+use Rattle.ticket.specs.Ticket.{Open, noTicket, newTicket, withdrawnAt}
 use Rattle.ticket.specs.declared.Ticket.{Ticket}
 use Rattle.desk.proofs.Answers.{opened-told, open-refused, book-refused, closed-told, close-refused, booked-told}
 use Rattle.desk.proofs.Calls.{live-host, only-room}
-use Rattle.desk.proofs.Ranking.{search-ended, due-ended}
+use Rattle.desk.proofs.Ranking.{search-ended, search-passed, due-ended}
 use Rattle.desk.specs.Close.{isTheirs, cancelRefusal, Cancels, Expires, duePlace, expireRefusal, withdrawnOn}
 use Rattle.desk.specs.Desk.{freshDesk, ticketAt, ticketOn, OpenOn, putAt, faultNumber, Fresh, Looks, Numbers}
 use Rattle.desk.specs.Open.{placeFrom, distanceOf, givenPlace, requestAt, placeTests, openRefusal, openAnswer, withTicket, Opens}
@@ -48,7 +49,7 @@ use Rattle.desk.specs.Outcome.{Given, ClosedAlone, Books, Expired}
 use Rattle.desk.specs.Reply.{bookRefusal, replyRefusal, answeredOn, Replies}
 use Rattle.desk.specs.declared.Desk.{Desk}
 use Rattle.desk.specs.declared.Fault.{Fault}
-use Rattle.desk.specs.declared.Fault.the-variants.{Denied, AllOpen, NoRoom, Unread, Misfit, NotTheirs, NothingDue}
+use Rattle.desk.specs.declared.Fault.the-variants.{Denied, NoneFree, NoRoom, Unread, Misfit, NotTheirs, NothingDue}
 use Rattle.desk.specs.declared.Opening.{Opening}
 use Rattle.desk.specs.declared.Opening.the-variants.{Opened}
 use Rattle.desk.specs.declared.Booking.{Booking}
@@ -81,23 +82,21 @@ stored-other desk turn place ticket other n = go (leb 161 other) refl
     go false e = refl
 
 -- ---- 01: "The address given is the first one without a ticket, from the turn upwards and after 255 from 161 on. The turn then moves to
--- the address after it, again with 161 after 255."
+-- the address after it, again with 161 after 255." 02, #102: one that rests "is not given out".
 
 -- on a desk of 95 places, as every call leaves it
-pub given-at : (desk : Desk) (asked : Request) (clock : ℕ) → length (desk .tickets) ≡ 95 → distanceOf desk < 95
-    → Given desk asked clock (161 + givenPlace desk) (withTicket desk (givenPlace desk) (newTicket asked clock))
+pub given-at : (desk : Desk) (asked : Request) (clock : ℕ) → length (desk .tickets) ≡ 95 → distanceOf desk clock < 95
+    → Given desk asked clock (161 + givenPlace desk clock) (withTicket desk (givenPlace desk clock) (newTicket asked clock))
 unfolding givenPlace
 given-at desk asked clock places near =
-    let e = search-ended desk in
-    let place : ℕ = placeFrom (desk .turn) (distanceOf desk) in
+    let place : ℕ = placeFrom (desk .turn) (distanceOf desk clock) in
     record {
       host = omega arith;
       last = omega arith;
-      free = rw (on-host desk place) (decides-free (ticketAt desk place) .so (e .there near));
+      free = rw (on-host desk place) (decides-free clock (ticketAt desk place) .so (search-ended desk clock .there near));
       found = refl;
       near = near;
-      passed = λ k h.
-          rw (on-host desk (placeFrom (desk .turn) k)) (decides-free (ticketAt desk (placeFrom (desk .turn) k)) .not-so (e .before k h));
+      passed = λ k h. rw (on-host desk (placeFrom (desk .turn) k)) (search-passed desk clock k h);
       stands =
           on-host (withTicket desk place (newTicket asked clock)) place
           ∙ getD-set-same (desk .tickets) place (newTicket asked clock) noTicket (omega arith);
@@ -106,13 +105,13 @@ given-at desk asked clock places near =
     }
 
 -- what no row refuses fits
-pub fit-to-open : (desk : Desk) (asked : Request) (bytes : List ℕ) (room : ℕ) → openRefusal desk asked bytes room ≡ none
-    → (askRefusal asked bytes ≡ none) × (distanceOf desk < 95) × (length (requestAt (givenPlace desk) asked bytes) ≤ room)
+pub fit-to-open : (desk : Desk) (asked : Request) (bytes : List ℕ) (clock room : ℕ) → openRefusal desk asked bytes clock room ≡ none
+    → (askRefusal asked bytes ≡ none) × (distanceOf desk clock < 95) × (length (requestAt (givenPlace desk clock) asked bytes) ≤ room)
 unfolding openRefusal
-fit-to-open desk asked bytes room e =
-    let request : List ℕ = requestAt (givenPlace desk) asked bytes in
-    let a = or-none (raised Denied (askRefusal asked bytes)) (firstOf (placeTests (distanceOf desk) request room)) e in
-    let b = first-false (leb 95 (distanceOf desk)) AllOpen _ (a .1) in
+fit-to-open desk asked bytes clock room e =
+    let request : List ℕ = requestAt (givenPlace desk clock) asked bytes in
+    let a = or-none (raised Denied (askRefusal asked bytes)) (firstOf (placeTests (distanceOf desk clock) request room)) e in
+    let b = first-false (leb 95 (distanceOf desk clock)) NoneFree _ (a .1) in
     let d = first-false (ltb room (length request)) NoRoom _ (b .1) in
     (raised-none Denied (askRefusal asked bytes) (a .0), leb-false _ _ (b .0), ltb-false _ _ (d .0))
 
@@ -120,14 +119,16 @@ fit-to-open desk asked bytes room e =
 module _ (desk : Desk) (asked : Request) (bytes : List ℕ) (clock : ℕ) (room : List ℕ) (r : AfterOpen) (room′ : List ℕ)
     (opens : Opens desk asked bytes clock room r room′) where
   pub opened-fit : (address n : ℕ) → r .answer ≡ Opened address n
-      → (openRefusal desk asked bytes (length room) ≡ none) × (address ≡ 161 + givenPlace desk) × (n ≡ length (requestAt (givenPlace desk) asked bytes))
+      → (openRefusal desk asked bytes clock (length room) ≡ none)
+      × (address ≡ 161 + givenPlace desk clock)
+      × (n ≡ length (requestAt (givenPlace desk clock) asked bytes))
   opened-fit address n e = opened-told _ _ _ address n (sym e ∙ opens .0)
 
   pub opened-given : (address n : ℕ) → length (desk .tickets) ≡ 95 → r .answer ≡ Opened address n → Given desk asked clock address (r .desk)
   opened-given address n places e =
       let a = opened-fit address n e in
-      let there : r .desk ≡ withTicket desk (givenPlace desk) (newTicket asked clock) = opens .1 ∙ rw (a .0) in
-      rw (a .1, there) (given-at desk asked clock places (fit-to-open desk asked bytes (length room) (a .0) .1))
+      let there : r .desk ≡ withTicket desk (givenPlace desk clock) (newTicket asked clock) = opens .1 ∙ rw (a .0) in
+      rw (a .1, there) (given-at desk asked clock places (fit-to-open desk asked bytes clock (length room) (a .0) .1))
 
   -- 01: "The request telegram is written with that address as source, into the first bytes of the lent buffer": read with room for the
   -- data, it gives back what was asked
@@ -136,11 +137,11 @@ module _ (desk : Desk) (asked : Request) (bytes : List ℕ) (clock : ℕ) (room 
       → (a ≡ Telegram (fieldsFor (asked .unit) address (asked .sort) (asked .register) bytes)) × (buffer′ ≡ over bytes buffer)
   request-reads-back address n e buffer a buffer′ h reads =
       let o = opened-fit address n e in
-      let fit = fit-to-open desk asked bytes (length room) (o .0) in
+      let fit = fit-to-open desk asked bytes clock (length room) (o .0) in
       let can = allowed-writable asked bytes (fit .0) in
       let wrote : writeRefusal (asked .unit) address (asked .sort) (asked .register) bytes (length room) ≡ none =
       only-room (asked .unit) address (asked .sort) (asked .register) bytes (length room) (can .0) (can .1) (λ z. omega (arith, o .1)) (can .2)
-      ∙ rw (o .1) (simp (le-ltb (length room) (length (requestAt (givenPlace desk) asked bytes)) (fit .2))) in
+      ∙ rw (o .1) (simp (le-ltb (length room) (length (requestAt (givenPlace desk clock) asked bytes)) (fit .2))) in
       reads-back (asked .unit) address (asked .sort) (asked .register) bytes room n room′
       (rw (wrote, o .2, o .1) refl, opens .2 ∙ rw (o .0, wrote, o .1)) buffer a buffer′ h reads
 
@@ -155,7 +156,7 @@ module _ (desk : Desk) (asked : Request) (bytes : List ℕ) (clock : ℕ) (room 
   -- 01: "It returns its number only, and every buffer, ticket and register and the desk's turn are as before."
   pub open-refusal-keeps : (f : Fault) → r .answer ≡ NotOpened f → (r .desk ≡ desk) × (room′ ≡ room)
   open-refusal-keeps f e =
-      let o = open-refused (openRefusal desk asked bytes (length room)) _ _ f (sym e ∙ opens .0) in
+      let o = open-refused (openRefusal desk asked bytes clock (length room)) _ _ f (sym e ∙ opens .0) in
       (opens .1 ∙ rw o, opens .2 ∙ rw o)
 
 -- 01: "A fresh desk has no tickets and its next turn at 161": whatever may be asked is opened there, with room for the longest telegram
@@ -164,7 +165,8 @@ pub fresh-opens : (asked : Request) (bytes : List ℕ) (clock : ℕ) (room : Lis
     → r .answer ≡ Opened 161 (length (requestAt 0 asked bytes))
 unfolding openRefusal givenPlace distanceOf
 fresh-opens asked bytes clock room r room′ opens allowed wide =
-    let near : distanceOf freshDesk ≡ 0 = first-at (λ k. isFree (ticketAt freshDesk (placeFrom 0 k))) 95 0 (omega arith) (λ i l. absurd (omega arith)) refl in
+    let near : distanceOf freshDesk clock ≡ 0 =
+    first-at (λ k. isFree clock (ticketAt freshDesk (placeFrom 0 k))) 95 0 (omega arith) (λ i l. absurd (omega arith)) refl in
     let can = allowed-writable asked bytes allowed in
     let sized = length-messageFor (asked .unit) 161 (asked .sort) (asked .register) bytes in
     let long : length (requestAt 0 asked bytes) ≤ 494 =
@@ -174,28 +176,34 @@ fresh-opens asked bytes clock room r room′ opens allowed wide =
 -- ---- 01: "A booked reply closes the ticket [..] and frees the address", "Cancel closes the ticket that is open on the address", "Expire
 -- closes one ticket": each closes one and leaves the others and the turn
 
-emptied : (l : List Ticket) (i : ℕ) → getD (set l i noTicket) i noTicket ≡ noTicket
-emptied [] i = refl
-emptied (t ∷ l) zero = refl
-emptied (t ∷ l) (suc i) = emptied l i
+live-within : (tickets : List Ticket) (i : ℕ) → Open (getD tickets i noTicket) → i < length tickets
+live-within [] i e = absurd (true≢false (sym e))
+live-within (t ∷ tickets) zero e = omega arith
+live-within (t ∷ tickets) (suc i) e = let h : i < length tickets = live-within tickets i e in omega arith
 
-closes-alone : (desk : Desk) (address : ℕ) → OpenOn desk address → ClosedAlone desk address (putAt desk (address - 161) noTicket)
-closes-alone desk address live =
+-- a ticket is open on a host address and at a place of the desk
+pub open-within : (desk : Desk) (address : ℕ) → OpenOn desk address → (161 ≤ address) × (address - 161 < length (desk .tickets))
+open-within desk address live =
+    let host = live-host desk address live in
+    (host, live-within (desk .tickets) (address - 161) (rw (le-leb 161 address host) at live))
+
+closes-alone : (desk : Desk) (address : ℕ) (left : Ticket) → OpenOn desk address → ClosedAlone desk address left (putAt desk (address - 161) left)
+closes-alone desk address left live =
+    let within = open-within desk address live in
     record {
       was-open = live;
-      closed = rw (le-leb 161 address host) (emptied (desk .tickets) (address - 161));
-      others = λ other n. stored-other desk (desk .turn) (address - 161) noTicket other (λ e. n (omega (arith, host)));
+      closed = rw (le-leb 161 address (within .0)) (getD-set-same (desk .tickets) (address - 161) left noTicket (within .1));
+      others = λ other n. stored-other desk (desk .turn) (address - 161) left other (λ e. n (omega (arith, within .0)));
       turn-kept = refl;
     }
-  where
-    host : 161 ≤ address
-    host = live-host desk address live
 
-pub answers-alone : (desk : Desk) (address : ℕ) → OpenOn desk address → ClosedAlone desk address (answeredOn desk address)
-answers-alone = closes-alone
+-- 02, #102: "Booked replies still free the address at once."
+pub answers-alone : (desk : Desk) (address : ℕ) → OpenOn desk address → ClosedAlone desk address noTicket (answeredOn desk address)
+answers-alone desk address = closes-alone desk address noTicket
 
-pub withdraws-alone : (desk : Desk) (address : ℕ) → OpenOn desk address → ClosedAlone desk address (withdrawnOn desk address)
-withdraws-alone = closes-alone
+-- 02, #102: "an address closed by cancel or expiry rests", from the clock of that call
+pub withdraws-alone : (desk : Desk) (address clock : ℕ) → OpenOn desk address → ClosedAlone desk address (withdrawnAt clock) (withdrawnOn desk address clock)
+withdraws-alone desk address clock = closes-alone desk address (withdrawnAt clock)
 
 -- ---- 01: "A reply is first read as a telegram [..]. A read is answered by type 8, 0, 1 or 2, a write of any sort by 3, 0, 1 or 2. A
 -- datagram's register must equal the ticket's. [..] A booked reply closes the ticket, answers its job, address, type and data"
@@ -265,7 +273,8 @@ pub nearby-reply : (frame : List ℕ) (offered : ℕ) (t : Fields) → readFrame
     → (r .answer ≡ NotBooked (Unread CheckFault)) × (r .desk ≡ desk) × (room′ ≡ room)
 nearby-reply frame offered t e m near = altered-reply frame offered t e m (near .same-length) (burst-seen (combined (messageOf frame) m) (nearby-burst near))
 
--- ---- 01: "Cancel closes the ticket that is open on the address for that job now, frees it at once, and answers job and address."
+-- ---- 01: "Cancel closes the ticket that is open on the address for that job now [..] and answers job and address." 02, #102: "Cancel takes a
+-- clock reading", from which on the address rests.
 
 pub fit-to-cancel : (desk : Desk) (job address : ℕ) → cancelRefusal desk job address ≡ none → OpenOn desk address × (ticketOn desk address .asked .job ≡ job)
 unfolding cancelRefusal
@@ -273,13 +282,14 @@ fit-to-cancel desk job address e =
     let b = first-false (not (isTheirs (ticketOn desk address) job)) NotTheirs none e in
     decides-and (decides-set (ticketOn desk address .live)) (decides-eq (ticketOn desk address .asked .job) job) .so (not-false _ (b .0))
 
-pub cancelled-right : (desk : Desk) (job address : ℕ) (r : AfterClose) (job′ address′ : ℕ) → Cancels desk job address r → r .answer ≡ Closed job′ address′
-    → (job′ ≡ job) × (address′ ≡ address) × (ticketOn desk address .asked .job ≡ job) × ClosedAlone desk address (r .desk)
-cancelled-right desk job address r job′ address′ c e =
+pub cancelled-right : (desk : Desk) (job address clock : ℕ) (r : AfterClose) (job′ address′ : ℕ)
+    → Cancels desk job address clock r → r .answer ≡ Closed job′ address′
+    → (job′ ≡ job) × (address′ ≡ address) × (ticketOn desk address .asked .job ≡ job) × ClosedAlone desk address (withdrawnAt clock) (r .desk)
+cancelled-right desk job address clock r job′ address′ c e =
     let a = closed-told (cancelRefusal desk job address) (ticketOn desk address) address job′ address′ (sym e ∙ c .0) in
     let fit = fit-to-cancel desk job address (a .0) in
-    let there : r .desk ≡ withdrawnOn desk address = c .1 ∙ rw (a .0) in
-    (a .1 ∙ fit .1, a .2, fit .1, rw there (withdraws-alone desk address (fit .0)))
+    let there : r .desk ≡ withdrawnOn desk address clock = c .1 ∙ rw (a .0) in
+    (a .1 ∙ fit .1, a .2, fit .1, rw there (withdraws-alone desk address clock (fit .0)))
 
 -- ---- 01: "Expire closes one ticket, the due one with the lowest address, and answers job and address."
 
@@ -297,7 +307,7 @@ expired-right desk clock r job address x e =
     let place : ℕ = duePlace desk clock in
     let a = closed-told (expireRefusal desk clock) (ticketOn desk (161 + place)) (161 + place) job address (sym e ∙ x .0) in
     let fit = fit-to-expire desk clock (a .0) in
-    let there : r .desk ≡ withdrawnOn desk (161 + place) = x .1 ∙ rw (a .0) in
+    let there : r .desk ≡ withdrawnOn desk (161 + place) clock = x .1 ∙ rw (a .0) in
     record {
       due = rw (a .2) (fit .1);
       lowest = λ other h under found.
@@ -305,22 +315,28 @@ expired-right desk clock r job address x e =
           (rw (le-leb 161 other h) at found);
       last = omega (arith, a .2, fit .0);
       theirs = rw (a .2) (a .1);
-      closes = rw (a .2, there) (withdraws-alone desk (161 + place) (fit .1 .0));
+      closes = rw (a .2, there) (withdraws-alone desk (161 + place) clock (fit .1 .0));
     }
 
-pub cancel-refusal-keeps : (desk : Desk) (job address : ℕ) (r : AfterClose) (f : Fault) → Cancels desk job address r → r .answer ≡ NotClosed f → r .desk ≡ desk
-cancel-refusal-keeps desk job address r f c e = let o = close-refused (cancelRefusal desk job address) _ _ f (sym e ∙ c .0) in c .1 ∙ rw o
+pub cancel-refusal-keeps : (desk : Desk) (job address clock : ℕ) (r : AfterClose) (f : Fault)
+    → Cancels desk job address clock r → r .answer ≡ NotClosed f → r .desk ≡ desk
+cancel-refusal-keeps desk job address clock r f c e = let o = close-refused (cancelRefusal desk job address) _ _ f (sym e ∙ c .0) in c .1 ∙ rw o
 
 pub expire-refusal-keeps : (desk : Desk) (clock : ℕ) (r : AfterClose) (f : Fault) → Expires desk clock r → r .answer ≡ NotClosed f → r .desk ≡ desk
 expire-refusal-keeps desk clock r f x e = let o = close-refused (expireRefusal desk clock) _ _ f (sym e ∙ x .0) in x .1 ∙ rw o
 
--- ---- looking at an address shows the ticket that is open there, and nothing where none is
+-- ---- looking at an address shows the ticket that is open there, or when its last one was cancelled or expired, or nothing
 
 pub look-open : (desk : Desk) (address : ℕ) (r : Seen) → Looks desk address r → ticketOn desk address .live ≡ true → r ≡ seen.Open (ticketOn desk address)
 look-open desk address r p live = p ∙ rw live
 
-pub look-nothing : (desk : Desk) (address : ℕ) (r : Seen) → Looks desk address r → ticketOn desk address .live ≡ false → r ≡ seen.Nothing
-look-nothing desk address r p free = p ∙ rw free
+pub look-withdrawn : (desk : Desk) (address : ℕ) (r : Seen) → Looks desk address r → ticketOn desk address .live ≡ false
+    → ticketOn desk address .withdrawn ≡ true → r ≡ seen.Withdrawn (ticketOn desk address .closed)
+look-withdrawn desk address r p shut withdrawn = p ∙ rw (shut, withdrawn)
+
+pub look-nothing : (desk : Desk) (address : ℕ) (r : Seen) → Looks desk address r → ticketOn desk address .live ≡ false
+    → ticketOn desk address .withdrawn ≡ false → r ≡ seen.Nothing
+look-nothing desk address r p shut kept = p ∙ rw (shut, kept)
 
 -- the call `number` gives the number that the laws above tell
 pub number-is : (f : Fault) (r : ℕ) → Numbers f r → r ≡ faultNumber f
@@ -356,8 +372,8 @@ closed-settled x y =
       only = λ other p. ap₂ (λ (a : Closing) (b : Desk). record { answer = a; desk = b }) (p .0) (p .1);
     }
 
-pub cancels-settled : (desk : Desk) (job address : ℕ) → Settled (Cancels desk job address)
-cancels-settled desk job address = closed-settled _ _
+pub cancels-settled : (desk : Desk) (job address clock : ℕ) → Settled (Cancels desk job address clock)
+cancels-settled desk job address clock = closed-settled _ _
 
 pub expires-settled : (desk : Desk) (clock : ℕ) → Settled (Expires desk clock)
 expires-settled desk clock = closed-settled _ _

@@ -19,14 +19,15 @@ use Rattle.rows.specs.Rows.{Ranked, Numbered, row, firstOf, passedUp, raised}
 use Rattle.telegram.proofs.Ranking.{read-ranked}
 use Rattle.telegram.specs.Read.{readRows, readRefusal, fieldsIn}
 use Rattle.telegram.specs.declared.Fields.{Fields}
-use Rattle.ticket.proofs.Laws.{fit-ranked, decides-due, decides-free}
+use Rattle.ticket.proofs.Laws.{fit-ranked, decides-due, decides-free, open-or-rests, taken-not-free}
 use Rattle.ticket.specs.Due.{age, IsDue, isDue}
 use Rattle.ticket.specs.Fit.{fitRows, fitRefusal}
-use Rattle.ticket.specs.Ticket.{Free, isFree}
+use Rattle.ticket.specs.Rest.{Rests, isFree}
+use Rattle.ticket.specs.Ticket.{Open}
 use Rattle.ticket.specs.declared.Ticket.{Ticket}
 use Rattle.desk.specs.Close.{IsNotTheirs, cancelRows, cancelRefusal, IsNothingDue, expireRows, duePlace, expireRefusal, cancelTests, expireTests}
 use Rattle.desk.specs.Close.{closeAnswer, closeTold, Cancels, Expires}
-use Rattle.desk.specs.Open.{placeFrom, distanceOf, givenPlace, requestAt, IsAllOpen, IsNoRoom, placeRows, placeTests, openRefusal, openRows}
+use Rattle.desk.specs.Open.{placeFrom, distanceOf, givenPlace, requestAt, IsNoneFree, IsNoRoom, placeRows, placeTests, openRefusal, openRows}
 use Rattle.desk.specs.Open.{openAnswer, openTold, Opens}
 use Rattle.desk.specs.Reply.{bookRows, replyRows, bookRefusal, replyRefusal, bookAnswer, bookTold, Replies}
 use Rattle.desk.specs.Desk.{ticketAt, ticketOn, faultNumber}
@@ -44,40 +45,47 @@ pub reached : (turn place : ℕ) → place < 95 → (k : ℕ) × (k < 95) × (pl
 reached turn place h = ((place + 95 - turn % 95) % 95, omega arith, omega arith)
 
 -- where the search from the turn has ended
-pub search-ended : (desk : Desk) → Ended (λ k. isFree (ticketAt desk (placeFrom (desk .turn) k))) 95 (distanceOf desk)
+pub search-ended : (desk : Desk) (clock : ℕ) → Ended (λ k. isFree clock (ticketAt desk (placeFrom (desk .turn) k))) 95 (distanceOf desk clock)
 unfolding distanceOf
-search-ended desk = ended (λ k. isFree (ticketAt desk (placeFrom (desk .turn) k))) 95
+search-ended desk clock = ended (λ k. isFree clock (ticketAt desk (placeFrom (desk .turn) k))) 95
 
-decides-all-open : (desk : Desk) → Decides (leb 95 (distanceOf desk)) (IsAllOpen desk)
-unfolding IsAllOpen
-decides-all-open desk = record { so = all; not-so = some-free }
-  where
-    all : leb 95 (distanceOf desk) ≡ true → (place : ℕ) → place < 95 → Free (ticketAt desk place) → ⊥
-    all far place h free =
-        let k = reached (desk .turn) place h in
-        decides-free (ticketAt desk (placeFrom (desk .turn) (k .0))) .not-so
-        (search-ended desk .before (k .0) (omega (arith, k .1, leb-true 95 (distanceOf desk) far))) (rw (k .2) free)
+module _ (desk : Desk) (clock : ℕ) where
+  -- what the search passes is open or rests
+  pub search-passed : (k : ℕ) → k < distanceOf desk clock
+      → Open (ticketAt desk (placeFrom (desk .turn) k)) ⊎ Rests clock (ticketAt desk (placeFrom (desk .turn) k))
+  search-passed k h = open-or-rests clock (ticketAt desk (placeFrom (desk .turn) k)) (search-ended desk clock .before k h)
 
-    some-free : leb 95 (distanceOf desk) ≡ false → ((place : ℕ) → place < 95 → Free (ticketAt desk place) → ⊥) → ⊥
-    some-free near nowhere =
-        let h : distanceOf desk < 95 = leb-false 95 (distanceOf desk) near in
-        nowhere (placeFrom (desk .turn) (distanceOf desk)) (omega arith)
-        (decides-free (ticketAt desk (placeFrom (desk .turn) (distanceOf desk))) .so (search-ended desk .there h))
+  decides-none-free : Decides (leb 95 (distanceOf desk clock)) (IsNoneFree desk clock)
+  unfolding IsNoneFree
+  decides-none-free = record { so = all; not-so = some-free }
+    where
+      all : leb 95 (distanceOf desk clock) ≡ true → (place : ℕ) → place < 95 → Open (ticketAt desk place) ⊎ Rests clock (ticketAt desk place)
+      all far place h =
+          let k = reached (desk .turn) place h in
+          rw (k .2) at (search-passed (k .0) (omega (arith, k .1, leb-true 95 (distanceOf desk clock) far)))
 
-pub open-ranked : (desk : Desk) (asked : Request) (bytes : List ℕ) (room : ℕ) → Ranked (openRows desk asked bytes room) (openRefusal desk asked bytes room)
+      some-free : leb 95 (distanceOf desk clock) ≡ false
+          → ((place : ℕ) → place < 95 → Open (ticketAt desk place) ⊎ Rests clock (ticketAt desk place)) → ⊥
+      some-free near taken =
+          let h : distanceOf desk clock < 95 = leb-false 95 (distanceOf desk clock) near in
+          let given : ℕ = placeFrom (desk .turn) (distanceOf desk clock) in
+          taken-not-free clock (ticketAt desk given) (taken given (omega arith)) (decides-free clock (ticketAt desk given) .so (search-ended desk clock .there h))
+
+pub open-ranked : (desk : Desk) (asked : Request) (bytes : List ℕ) (clock room : ℕ)
+    → Ranked (openRows desk asked bytes clock room) (openRefusal desk asked bytes clock room)
 unfolding openRows openRefusal placeRows IsNoRoom
-open-ranked desk asked bytes room =
-    ranked-append (passedUp Denied (askRows asked bytes)) (placeRows desk request room)
-    (raised Denied (askRefusal asked bytes)) (firstOf (placeTests (distanceOf desk) request room))
+open-ranked desk asked bytes clock room =
+    ranked-append (passedUp Denied (askRows asked bytes)) (placeRows desk clock request room)
+    (raised Denied (askRefusal asked bytes)) (firstOf (placeTests (distanceOf desk clock) request room))
     (ranked-up Denied (askRows asked bytes) (askRefusal asked bytes) (ask-ranked asked bytes))
-    (λ n. ranked (placeTests (distanceOf desk) request room) (placeRows desk request room)
-    (decides-all-open desk otherwise λ n₁₅.
+    (λ n. ranked (placeTests (distanceOf desk clock) request room) (placeRows desk clock request room)
+    (decides-none-free desk clock otherwise λ n₁₅.
     decides-lt room (length request) otherwise λ n₁₆. tt))
   where
     request : List ℕ
-    request = requestAt (givenPlace desk) asked bytes
+    request = requestAt (givenPlace desk clock) asked bytes
 
--- ---- 17 to 20
+-- ---- 61 and 17 to 20
 
 pub book-ranked : (desk : Desk) (t : Fields) → Ranked (bookRows desk t) (bookRefusal desk t)
 unfolding bookRows bookRefusal
@@ -128,32 +136,34 @@ open-tells (some f) address n = refl
 
 pub open-exactly : (desk : Desk) (asked : Request) (bytes : List ℕ) (clock : ℕ) (room : List ℕ) (r : AfterOpen) (room′ : List ℕ)
     → Opens desk asked bytes clock room r room′
-    → Numbered (passedUp faultNumber (openRows desk asked bytes (length room))) (10 ∷ 11 ∷ 12 ∷ 13 ∷ 14 ∷ 15 ∷ 16 ∷ []) (openTold (r .answer))
+    → Numbered (passedUp faultNumber (openRows desk asked bytes clock (length room))) (10 ∷ 11 ∷ 12 ∷ 13 ∷ 14 ∷ 15 ∷ 16 ∷ []) (openTold (r .answer))
 unfolding openRows placeRows askRows
 open-exactly desk asked bytes clock room r room′ o =
-    numbered faultNumber (openRows desk asked bytes (length room)) (openRefusal desk asked bytes (length room)) (open-ranked desk asked bytes (length room))
-    (10 ∷ 11 ∷ 12 ∷ 13 ∷ 14 ∷ 15 ∷ 16 ∷ []) refl refl (openTold (r .answer)) (ap openTold (o .0) ∙ open-tells (openRefusal desk asked bytes (length room)) _ _)
+    numbered faultNumber (openRows desk asked bytes clock (length room)) (openRefusal desk asked bytes clock (length room))
+    (open-ranked desk asked bytes clock (length room)) (10 ∷ 11 ∷ 12 ∷ 13 ∷ 14 ∷ 15 ∷ 16 ∷ []) refl refl (openTold (r .answer))
+    (ap openTold (o .0) ∙ open-tells (openRefusal desk asked bytes clock (length room)) _ _)
 
-book-tells : (o : Option Fault) (ticket : Ticket) (t : Fields) → bookTold (bookAnswer o ticket t) ≡ raised faultNumber o
+pub book-tells : (o : Option Fault) (ticket : Ticket) (t : Fields) → bookTold (bookAnswer o ticket t) ≡ raised faultNumber o
 book-tells none ticket t = refl
 book-tells (some f) ticket t = refl
 
 pub reply-exactly : (desk : Desk) (frame room : List ℕ) (r : AfterReply) (room′ : List ℕ) → Replies desk frame room r room′
     → Numbered (passedUp faultNumber (replyRows desk frame (length room)))
-    (1 ∷ 2 ∷ 3 ∷ 4 ∷ 5 ∷ 6 ∷ 7 ∷ 8 ∷ 9 ∷ 17 ∷ 18 ∷ 19 ∷ 20 ∷ []) (bookTold (r .answer))
+    (1 ∷ 2 ∷ 3 ∷ 4 ∷ 5 ∷ 6 ∷ 7 ∷ 8 ∷ 9 ∷ 61 ∷ 17 ∷ 18 ∷ 19 ∷ 20 ∷ []) (bookTold (r .answer))
 unfolding replyRows bookRows readRows fitRows
 reply-exactly desk frame room r room′ o =
     numbered faultNumber (replyRows desk frame (length room)) (replyRefusal desk frame (length room)) (reply-ranked desk frame (length room))
-    (1 ∷ 2 ∷ 3 ∷ 4 ∷ 5 ∷ 6 ∷ 7 ∷ 8 ∷ 9 ∷ 17 ∷ 18 ∷ 19 ∷ 20 ∷ []) refl refl (bookTold (r .answer)) (ap bookTold (o .0) ∙ book-tells (replyRefusal desk frame (length room)) _ _)
+    (1 ∷ 2 ∷ 3 ∷ 4 ∷ 5 ∷ 6 ∷ 7 ∷ 8 ∷ 9 ∷ 61 ∷ 17 ∷ 18 ∷ 19 ∷ 20 ∷ []) refl refl (bookTold (r .answer))
+    (ap bookTold (o .0) ∙ book-tells (replyRefusal desk frame (length room)) _ _)
 
 close-tells : (o : Option Fault) (ticket : Ticket) (address : ℕ) → closeTold (closeAnswer o ticket address) ≡ raised faultNumber o
 close-tells none ticket address = refl
 close-tells (some f) ticket address = refl
 
-pub cancel-exactly : (desk : Desk) (job address : ℕ) (r : AfterClose) → Cancels desk job address r
+pub cancel-exactly : (desk : Desk) (job address clock : ℕ) (r : AfterClose) → Cancels desk job address clock r
     → Numbered (passedUp faultNumber (cancelRows desk job address)) (21 ∷ []) (closeTold (r .answer))
 unfolding cancelRows
-cancel-exactly desk job address r o =
+cancel-exactly desk job address clock r o =
     numbered faultNumber (cancelRows desk job address) (cancelRefusal desk job address) (cancel-ranked desk job address)
     (21 ∷ []) refl refl (closeTold (r .answer)) (ap closeTold (o .0) ∙ close-tells (cancelRefusal desk job address) _ _)
 
@@ -174,17 +184,18 @@ pub open-plainly : (desk : Desk) (asked : Request) (bytes : List ℕ) (clock : �
     ∷ row ((asked .sort ≡ 4) ⊎ ((asked .sort ≡ 5) ⊎ ((asked .sort ≡ 6) ⊎ ((asked .sort ≡ 7) ⊎ (asked .sort ≡ 9)))) → ⊥) 12
     ∷ row ((240 < length bytes) ⊎ ((asked .sort ≡ 4) × (0 < length bytes))) 13
     ∷ row ((1 ≤ asked .wait) × (asked .wait ≤ 60000) → ⊥) 14
-    ∷ row ((place : ℕ) → place < 95 → ticketAt desk place .live ≡ false → ⊥) 15
-    ∷ row (length room < length (requestAt (givenPlace desk) asked bytes)) 16
+    ∷ row ((place : ℕ) → place < 95
+    → (ticketAt desk place .live ≡ true) ⊎ ((ticketAt desk place .withdrawn ≡ true) × (age clock (ticketAt desk place .closed) < 1000))) 15
+    ∷ row (length room < length (requestAt (givenPlace desk clock) asked bytes)) 16
     ∷ [])
     (10 ∷ 11 ∷ 12 ∷ 13 ∷ 14 ∷ 15 ∷ 16 ∷ []) (openTold (r .answer))
-unfolding openRows placeRows askRows IsNoJob IsNotAModule IsNotARequest IsWrongData IsWrongWait IsAllOpen IsNoRoom
+unfolding openRows placeRows askRows IsNoJob IsNotAModule IsNotARequest IsWrongData IsWrongWait IsNoneFree IsNoRoom
 open-plainly desk asked bytes clock room r room′ o = open-exactly desk asked bytes clock room r room′ o
 
-pub cancel-plainly : (desk : Desk) (job address : ℕ) (r : AfterClose) → Cancels desk job address r
+pub cancel-plainly : (desk : Desk) (job address clock : ℕ) (r : AfterClose) → Cancels desk job address clock r
     → Numbered (row ((ticketOn desk address .live ≡ true) × (ticketOn desk address .asked .job ≡ job) → ⊥) 21 ∷ []) (21 ∷ []) (closeTold (r .answer))
 unfolding cancelRows IsNotTheirs
-cancel-plainly desk job address r o = cancel-exactly desk job address r o
+cancel-plainly desk job address clock r o = cancel-exactly desk job address clock r o
 
 pub expire-plainly : (desk : Desk) (clock : ℕ) (r : AfterClose) → Expires desk clock r
     → Numbered

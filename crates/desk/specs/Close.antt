@@ -10,7 +10,7 @@ use Rattle.rows.specs.Rows.{Row, row, test, firstOf, Test}
 use Rattle.first.specs.First.{firstPlace}
 use Rattle.desk.specs.Desk.{ticketAt, ticketOn, OpenOn, putAt, faultNumber}
 use Rattle.ticket.specs.Due.{IsDue, isDue}
-use Rattle.ticket.specs.Ticket.{noTicket}
+use Rattle.ticket.specs.Ticket.{withdrawnAt}
 use Rattle.ticket.specs.declared.Ticket.{Ticket}
 use Rattle.desk.specs.declared.Desk.{Desk}
 use Rattle.desk.specs.declared.Fault.{Fault}
@@ -67,26 +67,28 @@ abbrev pub closeTold : Closing → Option ℕ
 closeTold (Refused f) = some (faultNumber f)
 closeTold (Closed job address) = none
 
--- the desk without the ticket that was given up: "frees it at once"
-abbrev pub withdrawnOn : Desk → ℕ → Desk
-withdrawnOn desk address = putAt desk (address - 161) noTicket
+-- the desk without the ticket that was cancelled or expired at a clock. 02, #102: "an address closed by cancel or expiry rests" from then
+abbrev pub withdrawnOn : Desk → ℕ → ℕ → Desk
+withdrawnOn desk address clock = putAt desk (address - 161) (withdrawnAt clock)
 
-abbrev pub closeDesk : Option Fault → Desk → ℕ → Desk
-closeDesk (some f) desk address = desk
-closeDesk none desk address = withdrawnOn desk address
+abbrev pub closeDesk : Option Fault → Desk → ℕ → ℕ → Desk
+closeDesk (some f) desk address clock = desk
+closeDesk none desk address clock = withdrawnOn desk address clock
 
 -- ---- the contracts
 
-abbrev pub Cancels : Desk → ℕ → ℕ → AfterClose → Type 0
-Cancels desk job address r =
+-- `cancel`. 02, #102: "Cancel takes a clock reading."
+abbrev pub Cancels : Desk → ℕ → ℕ → ℕ → AfterClose → Type 0
+Cancels desk job address clock r =
     (r .answer ≡ closeAnswer (cancelRefusal desk job address) (ticketOn desk address) address)
-    × (r .desk ≡ closeDesk (cancelRefusal desk job address) desk address)
+    × (r .desk ≡ closeDesk (cancelRefusal desk job address) desk address clock)
 
+-- `expire`
 abbrev pub Expires : Desk → ℕ → AfterClose → Type 0
 Expires desk clock r =
     (r .answer ≡ closeAnswer (expireRefusal desk clock) (ticketOn desk (161 + duePlace desk clock)) (161 + duePlace desk clock))
-    × (r .desk ≡ closeDesk (expireRefusal desk clock) desk (161 + duePlace desk clock))
+    × (r .desk ≡ closeDesk (expireRefusal desk clock) desk (161 + duePlace desk clock) clock)
 
--- `withdraw`: the ticket on the address is closed without a reply
-abbrev pub Withdraws : Desk → ℕ → AfterClose → Type 0
-Withdraws desk address r = (r .answer ≡ closeAnswer none (ticketOn desk address) address) × (r .desk ≡ closeDesk none desk address)
+-- `withdraw`: the ticket on the address is closed without a reply, at a clock
+abbrev pub Withdraws : Desk → ℕ → ℕ → AfterClose → Type 0
+Withdraws desk address clock r = (r .answer ≡ closeAnswer none (ticketOn desk address) address) × (r .desk ≡ closeDesk none desk address clock)

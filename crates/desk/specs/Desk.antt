@@ -12,7 +12,7 @@ use Rattle.ticket.specs.Ticket.{Open, noTicket}
 use Rattle.ticket.specs.declared.Ticket.{Ticket}
 use Rattle.desk.specs.declared.Desk.{Desk}
 use Rattle.desk.specs.declared.Fault.{Fault}
-use Rattle.desk.specs.declared.Fault.the-variants.{Denied, AllOpen, NoRoom, Unread, Misfit, NotTheirs, NothingDue}
+use Rattle.desk.specs.declared.Fault.the-variants.{Denied, NoneFree, NoRoom, Unread, Misfit, NotTheirs, NothingDue}
 use Rattle.desk.specs.declared.Seen.{Seen}
 use Rattle.desk.specs.declared.Seen.the-variants as seen
 
@@ -36,20 +36,21 @@ OpenOn desk address = Open (ticketOn desk address)
 abbrev pub putAt : Desk → ℕ → Ticket → Desk
 putAt desk place ticket = record { turn = desk .turn; tickets = set (desk .tickets) place ticket }
 
--- the paper's number of each refusal; 10 to 14, 17 to 20 and the reader's are told where they are judged
+-- the paper's number of each refusal; 10 to 14, 61, 17 to 20 and the reader's are told where they are judged
 abbrev pub faultNumber : Fault → ℕ
 faultNumber (Denied f) = askNumber f
-faultNumber AllOpen = 15
+faultNumber NoneFree = 15
 faultNumber NoRoom = 16
 faultNumber (Unread f) = readNumber f
 faultNumber (Misfit f) = fitNumber f
 faultNumber NotTheirs = 21
 faultNumber NothingDue = 22
 
--- what looking at an address shows
-abbrev pub shown : Ticket → Bool → Seen
-shown ticket true = seen.Open ticket
-shown ticket false = seen.Nothing
+-- what looking at an address shows, by whether a ticket is open there and whether its last one was cancelled or expired
+abbrev pub shown : Ticket → Bool → Bool → Seen
+shown ticket true withdrawn = seen.Open ticket
+shown ticket false true = seen.Withdrawn (ticket .closed)
+shown ticket false false = seen.Nothing
 
 -- ---- the contracts
 
@@ -57,7 +58,7 @@ abbrev pub Fresh : Desk → Type 0
 Fresh desk = desk ≡ freshDesk
 
 abbrev pub Looks : Desk → ℕ → Seen → Type 0
-Looks desk address r = r ≡ shown (ticketOn desk address) (ticketOn desk address .live)
+Looks desk address r = r ≡ shown (ticketOn desk address) (ticketOn desk address .live) (ticketOn desk address .withdrawn)
 
 abbrev pub Numbers : Fault → ℕ → Type 0
 Numbers fault r = r ≡ faultNumber fault

@@ -2,6 +2,7 @@
 -- Assumes nothing.
 use mathlib.Core.Path.{_≡_}
 use mathlib.Core.List.{List, [], _∷_, _++_}
+use mathlib.Core.Logic.{_⊎_}
 use mathlib.Core.Option.{Option, some, none}
 use Prim.Native.Nat.{ℕ, _+_, _%_, _<_}
 use lib.Dec.{leb, ltb}
@@ -12,28 +13,30 @@ use Rattle.request.specs.Request.{askRows, askRefusal}
 use Rattle.request.specs.declared.Request.{Request}
 use Rattle.first.specs.First.{firstPlace}
 use Rattle.telegram.specs.Write.{telegramFor}
-use Rattle.ticket.specs.Ticket.{Free, isFree, newTicket}
+use Rattle.ticket.specs.Rest.{Rests, isFree}
+use Rattle.ticket.specs.Ticket.{Open, newTicket}
 use Rattle.ticket.specs.declared.Ticket.{Ticket}
 use Rattle.desk.specs.Desk.{ticketAt, faultNumber}
 use Rattle.desk.specs.declared.Desk.{Desk}
 use Rattle.desk.specs.declared.Fault.{Fault}
-use Rattle.desk.specs.declared.Fault.the-variants.{Denied, AllOpen, NoRoom}
+use Rattle.desk.specs.declared.Fault.the-variants.{Denied, NoneFree, NoRoom}
 use Rattle.desk.specs.declared.Opening.{Opening}
 use Rattle.desk.specs.declared.Opening.the-variants.{Opened, Refused}
 use Rattle.desk.specs.declared.AfterOpen.{AfterOpen}
 
--- ---- "The address given is the first one without a ticket, from the turn upwards and after 255 from 161 on."
+-- ---- "The address given is the first one without a ticket, from the turn upwards and after 255 from 161 on." 02, #102: one that rests at the
+-- call's clock "is not given out".
 
 -- the place at a distance from the turn
 abbrev pub placeFrom : ℕ → ℕ → ℕ
 placeFrom turn distance = (turn + distance) % 95
 
--- how far from the turn the first free place is; 95 where there is none
-unfoldable pub distanceOf : Desk → ℕ
-distanceOf desk = firstPlace (λ k. isFree (ticketAt desk (placeFrom (desk .turn) k))) 95
+-- how far from the turn the first place is that is free at a clock; 95 where there is none
+unfoldable pub distanceOf : Desk → ℕ → ℕ
+distanceOf desk clock = firstPlace (λ k. isFree clock (ticketAt desk (placeFrom (desk .turn) k))) 95
 
-unfoldable pub givenPlace : Desk → ℕ
-givenPlace desk = placeFrom (desk .turn) (distanceOf desk)
+unfoldable pub givenPlace : Desk → ℕ → ℕ
+givenPlace desk clock = placeFrom (desk .turn) (distanceOf desk clock)
 
 -- "The request telegram is written with that address as source": the telegram of a request at a place
 abbrev pub requestAt : ℕ → Request → List ℕ → List ℕ
@@ -41,27 +44,28 @@ requestAt place asked bytes = telegramFor (asked .unit) (161 + place) (asked .so
 
 -- ---- rows 15 and 16
 
--- 15: "all 95 host addresses open": none is free
-unfoldable pub IsAllOpen : Desk → Type 0
-IsAllOpen desk = (place : ℕ) → place < 95 → Free (ticketAt desk place) → ⊥
+-- 15, by 02, #102: "every address is open or resting at the call's clock"
+unfoldable pub IsNoneFree : Desk → ℕ → Type 0
+IsNoneFree desk clock = (place : ℕ) → place < 95 → Open (ticketAt desk place) ⊎ Rests clock (ticketAt desk place)
 
 -- 16: "buffer shorter than the telegram"
 unfoldable pub IsNoRoom : List ℕ → ℕ → Type 0
 IsNoRoom telegram room = room < length telegram
 
-unfoldable pub placeRows : Desk → List ℕ → ℕ → List (Row Fault)
-placeRows desk telegram room = row (IsAllOpen desk) AllOpen ∷ row (IsNoRoom telegram room) NoRoom ∷ []
+unfoldable pub placeRows : Desk → ℕ → List ℕ → ℕ → List (Row Fault)
+placeRows desk clock telegram room = row (IsNoneFree desk clock) NoneFree ∷ row (IsNoRoom telegram room) NoRoom ∷ []
 
 abbrev pub placeTests : ℕ → List ℕ → ℕ → List (Test Fault)
-placeTests distance telegram room = test (leb 95 distance) AllOpen ∷ test (ltb room (length telegram)) NoRoom ∷ []
+placeTests distance telegram room = test (leb 95 distance) NoneFree ∷ test (ltb room (length telegram)) NoRoom ∷ []
 
 -- what refuses an opening, in the order 10 to 16
-unfoldable pub openRefusal : Desk → Request → List ℕ → ℕ → Option Fault
-openRefusal desk asked bytes room =
-    orLater (raised Denied (askRefusal asked bytes)) (firstOf (placeTests (distanceOf desk) (requestAt (givenPlace desk) asked bytes) room))
+unfoldable pub openRefusal : Desk → Request → List ℕ → ℕ → ℕ → Option Fault
+openRefusal desk asked bytes clock room =
+    orLater (raised Denied (askRefusal asked bytes)) (firstOf (placeTests (distanceOf desk clock) (requestAt (givenPlace desk clock) asked bytes) room))
 
-unfoldable pub openRows : Desk → Request → List ℕ → ℕ → List (Row Fault)
-openRows desk asked bytes room = passedUp Denied (askRows asked bytes) ++ placeRows desk (requestAt (givenPlace desk) asked bytes) room
+unfoldable pub openRows : Desk → Request → List ℕ → ℕ → ℕ → List (Row Fault)
+openRows desk asked bytes clock room =
+    passedUp Denied (askRows asked bytes) ++ placeRows desk clock (requestAt (givenPlace desk clock) asked bytes) room
 
 -- ---- the answer, the desk and the buffer, each from the refusal
 
@@ -98,7 +102,7 @@ OpensAt refusal desk place asked bytes clock room r room′ =
 -- `open`
 abbrev pub Opens : Desk → Request → List ℕ → ℕ → List ℕ → AfterOpen → List ℕ → Type 0
 Opens desk asked bytes clock room r room′ =
-    OpensAt (openRefusal desk asked bytes (length room)) desk (givenPlace desk) asked bytes clock room r room′
+    OpensAt (openRefusal desk asked bytes clock (length room)) desk (givenPlace desk clock) asked bytes clock room r room′
 
 -- `open_at`: rows 15 and 16 and the opening, at any distance from the turn
 abbrev pub PlacesAt : Desk → ℕ → Request → List ℕ → ℕ → List ℕ → AfterOpen → List ℕ → Type 0

@@ -1,9 +1,9 @@
--- What a call that was not refused did to the desk, in 01's sentences: for the laws that callers cite.
+-- What a call that was not refused did to the desk, in the papers' sentences: for the laws that callers cite.
 -- Assumes nothing.
 use mathlib.Core.Path.{_≡_}
 use mathlib.Core.Bool.{true, false}
 use mathlib.Core.List.{List}
-use mathlib.Core.Logic.{_≢_}
+use mathlib.Core.Logic.{_≢_, _⊎_}
 use Prim.Native.Nat.{ℕ, _+_, _-_, _%_, _≤_, _<_}
 use Rattle.request.specs.declared.Request.{Request}
 use Rattle.telegram.specs.Read.{readFrame}
@@ -11,33 +11,37 @@ use Rattle.telegram.specs.declared.Fields.{Fields}
 use Rattle.telegram.specs.declared.Reading.the-variants.{Telegram}
 use Rattle.ticket.specs.Due.{IsDue}
 use Rattle.ticket.specs.Fit.{KindFits, RegisterFits}
-use Rattle.ticket.specs.Ticket.{Free, noTicket}
+use Rattle.ticket.specs.Rest.{Rests, Free}
+use Rattle.ticket.specs.Ticket.{Open, noTicket, withdrawnAt}
+use Rattle.ticket.specs.declared.Ticket.{Ticket}
 use Rattle.desk.specs.Desk.{ticketOn, OpenOn}
 use Rattle.desk.specs.Open.{distanceOf}
 use Rattle.desk.specs.declared.Desk.{Desk}
 
 -- "The address given is the first one without a ticket, from the turn upwards and after 255 from 161 on. The turn then moves to the address
--- after it, again with 161 after 255." The ticket stands there as it was asked, and every other address is as before.
+-- after it, again with 161 after 255." 02, #102: one that rests at the call's clock "is not given out". The ticket stands there as it was
+-- asked, and every other address is as before.
 pub record Given (desk : Desk) (asked : Request) (clock address : ℕ) (desk′ : Desk) : Type 0 where
   pub host : 161 ≤ address
   pub last : address ≤ 255
-  pub free : ticketOn desk address .live ≡ false
-  pub found : address ≡ 161 + (desk .turn + distanceOf desk) % 95
-  pub near : distanceOf desk < 95
-  pub passed : (k : ℕ) → k < distanceOf desk → Free (ticketOn desk (161 + (desk .turn + k) % 95)) → ⊥
-  pub stands : ticketOn desk′ address ≡ record { live = true; asked = asked; opened = clock }
+  pub free : Free clock (ticketOn desk address)
+  pub found : address ≡ 161 + (desk .turn + distanceOf desk clock) % 95
+  pub near : distanceOf desk clock < 95
+  pub passed : (k : ℕ) → k < distanceOf desk clock
+      → Open (ticketOn desk (161 + (desk .turn + k) % 95)) ⊎ Rests clock (ticketOn desk (161 + (desk .turn + k) % 95))
+  pub stands : ticketOn desk′ address ≡ record { live = true; asked = asked; opened = clock; withdrawn = false; closed = 0 }
   pub others : (other : ℕ) → other ≢ address → ticketOn desk′ other ≡ ticketOn desk other
   pub turn-after : desk′ .turn ≡ (address - 161 + 1) % 95
 
--- "closes the ticket": this one alone, and the turn stays
-pub record ClosedAlone (desk : Desk) (address : ℕ) (desk′ : Desk) : Type 0 where
+-- "closes the ticket": this one alone, with something left in its place, and the turn stays
+pub record ClosedAlone (desk : Desk) (address : ℕ) (left : Ticket) (desk′ : Desk) : Type 0 where
   pub was-open : OpenOn desk address
-  pub closed : ticketOn desk′ address ≡ noTicket
+  pub closed : ticketOn desk′ address ≡ left
   pub others : (other : ℕ) → other ≢ address → ticketOn desk′ other ≡ ticketOn desk other
   pub turn-kept : desk′ .turn ≡ desk .turn
 
 -- "A reply is first read as a telegram [..]. A read is answered by type 8, 0, 1 or 2, a write of any sort by 3, 0, 1 or 2. A datagram's
--- register must equal the ticket's. [..] A booked reply closes the ticket, answers its job, address, type and data"
+-- register must equal the ticket's. [..] A booked reply closes the ticket, answers its job, address, type and data, and frees the address."
 pub record Books (desk : Desk) (frame : List ℕ) (room : ℕ) (t : Fields) (job address sort n : ℕ) (desk′ : Desk) : Type 0 where
   pub was-read : readFrame frame room ≡ Telegram t
   pub for-address : address ≡ t .destination
@@ -47,12 +51,12 @@ pub record Books (desk : Desk) (frame : List ℕ) (room : ℕ) (t : Fields) (job
   pub register-fits : RegisterFits (ticketOn desk address .asked .register) (t .sort) (t .register)
   pub type-answered : sort ≡ t .sort
   pub size-answered : n ≡ t .size
-  pub closes : ClosedAlone desk address desk′
+  pub closes : ClosedAlone desk address noTicket desk′
 
--- "Expire closes one ticket, the due one with the lowest address, and answers job and address."
+-- "Expire closes one ticket, the due one with the lowest address, and answers job and address." It rests from the call's clock on.
 pub record Expired (desk : Desk) (clock job address : ℕ) (desk′ : Desk) : Type 0 where
   pub due : IsDue clock (ticketOn desk address)
   pub lowest : (other : ℕ) → 161 ≤ other → other < address → IsDue clock (ticketOn desk other) → ⊥
   pub last : address ≤ 255
   pub theirs : job ≡ ticketOn desk address .asked .job
-  pub closes : ClosedAlone desk address desk′
+  pub closes : ClosedAlone desk address (withdrawnAt clock) desk′

@@ -1,4 +1,4 @@
--- A reply: "first read as a telegram; a refusal there ends the call", then rows 17 to 20.
+-- A reply: "first read as a telegram; a refusal there ends the call", then rows 61 and 17 to 20.
 -- Assumes nothing.
 use mathlib.Core.Path.{_≡_}
 use mathlib.Core.List.{List, _++_}
@@ -20,7 +20,7 @@ use Rattle.desk.specs.declared.Booking.{Booking}
 use Rattle.desk.specs.declared.Booking.the-variants.{Booked, Refused}
 use Rattle.desk.specs.declared.AfterReply.{AfterReply}
 
--- ---- the rows: the reader's, and then those of the ticket that stands on the destination
+-- ---- the rows: the reader's, and then those of what stands on the destination
 
 unfoldable pub bookRows : Desk → Fields → List (Row Fault)
 bookRows desk t = passedUp Misfit (fitRows (ticketOn desk (t .destination)) t)
@@ -47,7 +47,7 @@ abbrev pub bookTold : Booking → Option ℕ
 bookTold (Refused f) = some (faultNumber f)
 bookTold (Booked job address sort n) = none
 
--- the desk without the ticket that was answered: its address is free
+-- the desk without the ticket that was answered. 02, #102: "Booked replies still free the address at once."
 abbrev pub answeredOn : Desk → ℕ → Desk
 answeredOn desk address = putAt desk (address - 161) noTicket
 

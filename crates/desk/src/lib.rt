@@ -7,6 +7,7 @@ ghost use Rattle.desk.specs.Desk.{Fresh, Looks, Numbers, ticketOn, putAt
 ghost use Rattle.desk.specs.Open.{Opens, PlacesAt, distanceOf, withTicket};
 ghost use Rattle.desk.specs.Reply.{Replies, answeredOn};
 ghost use Rattle.desk.specs.Close.{Cancels, Expires, Withdraws, duePlace, isTheirs};
+ghost use Rattle.ticket.specs.Ticket.{withdrawnAt};
 ghost use mathlib.Core.Path.{_≡_};
 ghost use mathlib.Core.Logic.{_≢_};
 ghost use Prim.Native.Nat.{_≤_, _<_};
@@ -23,7 +24,8 @@ pub struct Desk {
 pub enum Fault {
     // what is asked may not be sent
     Denied(request::Fault),
-    AllOpen,
+    // every address is open or rests
+    NoneFree,
     NoRoom,
     // the reply could not be read as a telegram
     Unread(telegram::Fault),
@@ -53,6 +55,8 @@ pub enum Closing {
 
 pub enum Seen {
     Open(Ticket),
+    // the last ticket there was cancelled or expired, at this clock
+    Withdrawn(u32),
     Nothing,
 }
 
@@ -88,7 +92,7 @@ pub fn number(fault: Fault) -> u8
 {
     match fault {
         Fault::Denied(denied) => request::number(denied),
-        Fault::AllOpen => 15,
+        Fault::NoneFree => 15,
         Fault::NoRoom => 16,
         Fault::Unread(unread) => telegram::number(unread),
         Fault::Misfit(misfit) => ticket::number(misfit),
@@ -97,13 +101,16 @@ pub fn number(fault: Fault) -> u8
     }
 }
 
-// What is open on an address.
+// What stands on an address.
 pub fn look(desk: Desk, address: u8) -> Seen
     ensures { λ r. ⌜ Looks desk address r ⌝ }
 {
     let ticket = ticket_on(desk, address);
     if ticket.live {
         return Seen::Open(ticket);
+    }
+    if ticket.withdrawn {
+        return Seen::Withdrawn(ticket.closed);
     }
     Seen::Nothing
 }
@@ -118,7 +125,9 @@ pub fn open(desk: Desk, asked: Request, data: &[u8], clock: u32, room: &mut [u8]
             desk,
             answer: Opening::Refused(Fault::Denied(fault)),
         },
-        request::Asking::Allowed => open_at(desk, free_distance(desk), asked, data, clock, room),
+        request::Asking::Allowed => {
+            open_at(desk, free_distance(desk, clock), asked, data, clock, room)
+        },
     }
 }
 
@@ -137,7 +146,7 @@ fn open_at(
     if 95 <= distance {
         return AfterOpen {
             desk,
-            answer: Opening::Refused(Fault::AllOpen),
+            answer: Opening::Refused(Fault::NoneFree),
         };
     }
     let place = ((desk.turn as u16 + distance as u16) % 95) as u8;
@@ -155,6 +164,8 @@ fn open_at(
                     live: true,
                     asked,
                     opened: clock,
+                    withdrawn: false,
+                    closed: 0,
                 },
             ),
             answer: Opening::Opened(address, n),
@@ -198,12 +209,12 @@ fn answered_on(desk: Desk, address: u8) -> Desk
     put_at(desk, address - 161, NO_TICKET)
 }
 
-// Closes the ticket that is open on the address for that job.
-pub fn cancel(desk: Desk, job: u32, address: u8) -> AfterClose
-    ensures { λ r. ⌜ Cancels desk job address r ⌝ }
+// Closes the ticket that is open on the address for that job. The address rests from the clock on.
+pub fn cancel(desk: Desk, job: u32, address: u8, clock: u32) -> AfterClose
+    ensures { λ r. ⌜ Cancels desk job address clock r ⌝ }
 {
     if is_theirs(ticket_on(desk, address), job) {
-        return withdraw(desk, address);
+        return withdraw(desk, address, clock);
     }
     AfterClose {
         desk,
@@ -217,7 +228,7 @@ fn is_theirs(ticket: Ticket, job: u32) -> bool
     ticket.live && ticket.asked.job == job
 }
 
-// Closes the due ticket with the lowest address.
+// Closes the due ticket with the lowest address. The address rests from the clock on.
 pub fn expire(desk: Desk, clock: u32) -> AfterClose
     ensures { λ r. ⌜ Expires desk clock r ⌝ }
 {
@@ -228,19 +239,29 @@ pub fn expire(desk: Desk, clock: u32) -> AfterClose
             answer: Closing::Refused(Fault::NothingDue),
         };
     }
-    withdraw(desk, 161 + place)
+    withdraw(desk, 161 + place, clock)
 }
 
 // Closes the ticket on a host address without a reply, and answers its job and address.
-fn withdraw(desk: Desk, address: u8) -> AfterClose
+fn withdraw(desk: Desk, address: u8, clock: u32) -> AfterClose
     requires { ⌜ 161 ≤ address ⌝ }
-    ensures { λ r. ⌜ Withdraws desk address r ⌝ }
+    ensures { λ r. ⌜ Withdraws desk address clock r ⌝ }
 {
     let ticket = ticket_on(desk, address);
     AfterClose {
-        desk: put_at(desk, address - 161, NO_TICKET),
+        desk: put_at(desk, address - 161, withdrawn_at(clock)),
         answer: Closing::Closed(ticket.asked.job, address),
     }
+}
+
+// What is kept of a ticket that is cancelled or expires at a clock.
+fn withdrawn_at(clock: u32) -> Ticket
+    ensures { λ r. ⌜ r ≡ withdrawnAt clock ⌝ }
+{
+    let mut kept = NO_TICKET;
+    kept.withdrawn = true;
+    kept.closed = clock;
+    kept
 }
 
 // What follows alone reads or stores in the array of tickets.
@@ -256,15 +277,15 @@ fn ticket_on(desk: Desk, address: u8) -> Ticket
     NO_TICKET
 }
 
-// How far from the turn the first free place is; 95 where there is none.
-fn free_distance(desk: Desk) -> u8
-    ensures { λ r. ⌜ r ≡ distanceOf desk ⌝ }
+// How far from the turn the first place is that is free at the clock; 95 where there is none.
+fn free_distance(desk: Desk, clock: u32) -> u8
+    ensures { λ r. ⌜ r ≡ distanceOf desk clock ⌝ }
 {
     let turn = desk.turn as usize;
     let mut k: u8 = 0;
     while k < 95 {
         let place = (turn + k as usize) % 95;
-        if ticket::is_free(desk.tickets[place]) {
+        if ticket::is_free(desk.tickets[place], clock) {
             return k;
         }
         k += 1;

@@ -185,7 +185,10 @@ fn cancel(d: Desk, w: Words, line: &[u8], out: &mut [u8]) -> Told {
     let b = words::number(a, line, 255);
     let c = words::number(b, line, MOST);
     if words::done(c, line) {
-        return closed(desk::cancel(d, word32(a.value), byte(b.value)), out);
+        return closed(
+            desk::cancel(d, word32(a.value), byte(b.value), word32(c.value)),
+            out,
+        );
     }
     bad(d, out)
 }
@@ -221,39 +224,58 @@ fn dump(d: Desk, w: Words, line: &[u8], out: &mut [u8]) -> Told {
         let at = answers::ok(out);
         let next = answers::field(out, at, b" turn=", 161 + d.turn as u64);
         let from = answers::text(out, next, b" tickets=");
+        let behind = addresses(d, out, from, false);
+        let last = answers::text(out, behind, b" closed=");
         return Told {
             desk: d,
-            at: tickets(d, out, from),
+            at: addresses(d, out, last, true),
         };
     }
     bad(d, out)
 }
 
-// The open tickets by rising address, `-` for none.
-fn tickets(d: Desk, out: &mut [u8], from: usize) -> usize {
+// The open tickets, or the addresses whose last one was cancelled or expired, by rising address;
+// `-` for none.
+fn addresses(d: Desk, out: &mut [u8], from: usize, closed: bool) -> usize {
     let mut at = from;
     let mut address: u8 = 161;
     while address < 255 {
-        at = ticket(d, address, out, from, at);
+        at = standing(d, address, out, from, at, closed);
         address += 1;
     }
-    let last = ticket(d, 255, out, from, at);
+    let last = standing(d, 255, out, from, at, closed);
     if last == from {
         return answers::text(out, from, b"-");
     }
     last
 }
 
-// The ticket on an address, behind a comma unless it is the first, or nothing.
-fn ticket(d: Desk, address: u8, out: &mut [u8], from: usize, at: usize) -> usize {
+// What stands on an address: the ticket, or the clock when the last one was cancelled or expired,
+// whichever is asked for; or nothing.
+fn standing(d: Desk, address: u8, out: &mut [u8], from: usize, at: usize, closed: bool) -> usize {
     match desk::look(d, address) {
         Seen::Nothing => at,
         Seen::Open(t) => {
-            let next = answers::comma(out, from, at);
-            let behind = answers::number(out, next, address as u64);
-            ticket_fields(t, out, behind)
+            if closed {
+                return at;
+            }
+            let next = named(address, out, from, at);
+            ticket_fields(t, out, next)
+        }
+        Seen::Withdrawn(clock) => {
+            if closed {
+                let next = named(address, out, from, at);
+                return answers::field(out, next, b":", clock as u64);
+            }
+            at
         }
     }
+}
+
+// The address, behind a comma unless it is the first.
+fn named(address: u8, out: &mut [u8], from: usize, at: usize) -> usize {
+    let next = answers::comma(out, from, at);
+    answers::number(out, next, address as u64)
 }
 
 fn ticket_fields(t: Ticket, out: &mut [u8], at: usize) -> usize {

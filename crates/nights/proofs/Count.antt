@@ -1,22 +1,25 @@
--- The turn is fair, counted: between two openings on one address lie at least as many openings as there were other free addresses.
+-- The turn is fair, counted: between two openings on one address lie at least as many openings as there were other addresses that are free
+-- at whatever clock.
 -- Assumes nothing.
 use mathlib.Core.Path.{_≡_, refl, sym, _∙_}
-use mathlib.Core.Bool.{Bool, true, false, cond, not, _&&_}
+use mathlib.Core.Bool.{Bool, true, false, cond, not, _&&_, true≢false}
 use mathlib.Core.List.{List, [], _∷_, _++_}
-use mathlib.Core.Logic.{_≢_, inl, inr, ⊎-elim}
+use mathlib.Core.Logic.{_≢_, _↔_, inl, inr, ⊎-elim}
 use Prim.Native.Nat.{ℕ, zero, suc, _+_, _≤_, _<_}
 use native.Mathlib.Omega.{arith}
 use borrow.Author.Tests.{eqb-true, ne-eqb}
 use lib.Dec.{eqb}
-use Rattle.rows.proofs.Laws.{decides-eq, decides-not, decides-and, decides-set}
+use Rattle.rows.proofs.Laws.{Decides, decides-eq, decides-not, decides-and, decides-set, told-true}
 use Rattle.desk.specs.Open.{givenPlace}
 use Rattle.desk.specs.Desk.{freshDesk, ticketAt}
-use Rattle.ticket.proofs.Laws.{decides-free}
-use Rattle.ticket.specs.Ticket.{isFree}
+use Rattle.ticket.proofs.Laws.{decides-off}
+use Rattle.ticket.specs.Due.{age}
+use Rattle.ticket.specs.Rest.{Free}
+use Rattle.ticket.specs.declared.Ticket.{Ticket}
 use Rattle.desk.specs.declared.Desk.{Desk}
-use Rattle.nights.proofs.Fair.{gives-opening, free-before-again}
+use Rattle.nights.proofs.Fair.{Sweep, one-place, opens-or-stays, free-before-again}
 use Rattle.nights.specs.Night.{Call, after, eventOf, afterAll}
-use Rattle.nights.specs.Round.{Gives, GivenIn, oneOpening, openingsIn, countOf, othersFree}
+use Rattle.nights.specs.Round.{GivesAt, Gives, GivenIn, OpensWhile, oneOpening, openingsIn, countOf, isClear, othersFree}
 
 -- ---- counting
 
@@ -57,9 +60,9 @@ one-fewer fits one (suc n) = go (fits n) (eqb n one) refl (one-fewer fits one n)
 
 -- ---- openings
 
-gives-counts : (desk : Desk) (call : Call) (place : ℕ) → Gives desk call place → oneOpening (eventOf desk call) ≡ 1
-unfolding Gives
-gives-counts desk call place g = rw (g .1)
+gives-counts : (desk : Desk) (call : Call) (place clock : ℕ) → GivesAt desk call place clock → oneOpening (eventOf desk call) ≡ 1
+unfolding GivesAt
+gives-counts desk call place clock g = rw (g .1)
 
 -- each opening gives one place, so as many places as are given need as many openings
 given-count : (calls : List Call) (desk : Desk) (fits : ℕ → Bool) → ((q : ℕ) → q < 95 → fits q ≡ true → GivenIn desk calls q)
@@ -67,28 +70,25 @@ given-count : (calls : List Call) (desk : Desk) (fits : ℕ → Bool) → ((q : 
 unfolding GivenIn openingsIn
 given-count [] desk fits all = let e : countOf fits 95 ≡ 0 = none-fit fits 95 all in omega arith
 given-count (call ∷ calls) desk fits all =
-    go (oneOpening (eventOf desk call)) refl (given-count calls (after desk call) fits) (given-count calls (after desk call) (but fits (givenPlace desk)))
+    ⊎-elim
+    (λ o. opening (o .0) (o .1) (given-count calls (after desk call) (but fits (givenPlace desk (o .0))) (rest (o .0) (o .1))))
+    (λ stays.
+    let h : countOf fits 95 ≤ openingsIn (after desk call) calls =
+    given-count calls (after desk call) fits (λ q h fit. ⊎-elim (λ g. absurd (stays .gives-none q g)) (λ later. later) (all q h fit)) in
+    omega arith)
+    (opens-or-stays desk call)
   where
-    -- a call that opens nothing gives no place
-    quiet : oneOpening (eventOf desk call) ≡ 0 → (q : ℕ) → q < 95 → fits q ≡ true → GivenIn (after desk call) calls q
-    quiet e q h fit = ⊎-elim (λ g. absurd (omega (arith, gives-counts desk call q g))) (λ later. later) (all q h fit)
-
     -- an opening gives one place, and the others are still to be given
-    rest : (q : ℕ) → q < 95 → but fits (givenPlace desk) q ≡ true → GivenIn (after desk call) calls q
-    rest q h fit =
-        let both = decides-and (decides-set (fits q)) (decides-not (decides-eq q (givenPlace desk))) .so fit in
-        ⊎-elim (λ g. absurd (both .1 (gives-opening desk call q g .1))) (λ later. later) (all q h (both .0))
+    rest : (clock : ℕ) → Sweep desk call clock → (q : ℕ) → q < 95 → but fits (givenPlace desk clock) q ≡ true → GivenIn (after desk call) calls q
+    rest clock o q h fit =
+        let both = decides-and (decides-set (fits q)) (decides-not (decides-eq q (givenPlace desk clock))) .so fit in
+        ⊎-elim (λ g. absurd (both .1 (one-place desk call q (givenPlace desk clock) g (clock, o .gives)))) (λ later. later) (all q h (both .0))
 
-    go : (n : ℕ) → oneOpening (eventOf desk call) ≡ n
-        → (((q : ℕ) → q < 95 → fits q ≡ true → GivenIn (after desk call) calls q) → countOf fits 95 ≤ openingsIn (after desk call) calls)
-        → (((q : ℕ) → q < 95 → but fits (givenPlace desk) q ≡ true → GivenIn (after desk call) calls q)
-        → countOf (but fits (givenPlace desk)) 95 ≤ openingsIn (after desk call) calls)
-        → countOf fits 95 ≤ n + openingsIn (after desk call) calls
-    go zero e same fewer = let h : countOf fits 95 ≤ openingsIn (after desk call) calls = same (quiet e) in omega arith
-    go (suc n) e same fewer =
-        let h : countOf (but fits (givenPlace desk)) 95 ≤ openingsIn (after desk call) calls = fewer rest in
-        let k : countOf fits 95 ≤ 1 + countOf (but fits (givenPlace desk)) 95 = one-fewer fits (givenPlace desk) 95 in
-        omega arith
+    opening : (clock : ℕ) → Sweep desk call clock → countOf (but fits (givenPlace desk clock)) 95 ≤ openingsIn (after desk call) calls
+        → countOf fits 95 ≤ oneOpening (eventOf desk call) + openingsIn (after desk call) calls
+    opening clock o h =
+        let k : countOf fits 95 ≤ 1 + countOf (but fits (givenPlace desk clock)) 95 = one-fewer fits (givenPlace desk clock) 95 in
+        omega (arith, gives-counts desk call (givenPlace desk clock) clock (o .gives))
 
 -- what the last call does not give, the others do
 given-earlier : (calls : List Call) (desk : Desk) (last : Call) (q : ℕ) → (Gives (afterAll desk calls) last q → ⊥) → GivenIn desk (calls ++ (last ∷ [])) q
@@ -97,21 +97,44 @@ unfolding GivenIn afterAll
 given-earlier [] desk last q other = ⊎-elim (λ g. absurd (other g)) (λ never. never)
 given-earlier (call ∷ calls) desk last q other = ⊎-elim (λ g. inl g) (λ later. inr (given-earlier calls (after desk call) last q other later))
 
--- so at least as many openings lie between as there were other free addresses after the first
+-- ---- free at whatever clock
+
+pub decides-clear : (ticket : Ticket) → Decides (isClear ticket) ((ticket .live ≡ false) × (ticket .withdrawn ≡ false))
+decides-clear ticket = decides-and (decides-off (ticket .live)) (decides-off (ticket .withdrawn))
+
+clear-free : (ticket : Ticket) → (ticket .live ≡ false) × (ticket .withdrawn ≡ false) → (clock : ℕ) → Free clock ticket
+clear-free ticket clear clock = (clear .0, λ rests. true≢false (sym (rests .0) ∙ clear .1))
+
+-- an address is counted exactly where it is free at whatever clock
+pub clear-exactly : (ticket : Ticket) → (isClear ticket ≡ true) ↔ ((clock : ℕ) → Free clock ticket)
+unfolding age
+clear-exactly ticket = (
+  λ e. clear-free ticket (decides-clear ticket .so e),
+  λ free. told-true (decides-clear ticket) (free 0 .0, never (ticket .withdrawn) refl (free (ticket .closed) .1)),
+)
+  where
+    never : (b : Bool) → ticket .withdrawn ≡ b → ((ticket .withdrawn ≡ true) × (age (ticket .closed) (ticket .closed) < 1000) → ⊥) → ticket .withdrawn ≡ false
+    never true e rested = absurd (rested (e, omega arith))
+    never false e rested = e
+
+each-while : (such : ℕ → Type 0) → ((clock : ℕ) → such clock) → (calls : List Call) (desk : Desk) → OpensWhile such desk calls
+unfolding OpensWhile
+each-while such always [] desk = tt
+each-while such always (call ∷ calls) desk = (λ place clock g. always clock, each-while such always calls (after desk call))
+
+-- so at least as many openings lie between as there were other addresses, after the first, that are free at whatever clock
 pub openings-between : (desk : Desk) (first : Call) (p : ℕ) → Gives desk first p → (calls : List Call) (second : Call)
     → Gives (afterAll (after desk first) calls) second p → othersFree (after desk first) p ≤ openingsIn (after desk first) calls
 unfolding othersFree
 openings-between desk first p g calls second again = given-count calls (after desk first) _ free
   where
-    another : (q : ℕ) → q ≢ p → Gives (afterAll (after desk first) calls) second q → ⊥
-    another q other h =
-        other (gives-opening (afterAll (after desk first) calls) second q h .1 ∙ sym (gives-opening (afterAll (after desk first) calls) second p again .1))
-
-    free : (q : ℕ) → q < 95 → (isFree (ticketAt (after desk first) q) && not (eqb q p)) ≡ true → GivenIn (after desk first) calls q
+    free : (q : ℕ) → q < 95 → (isClear (ticketAt (after desk first) q) && not (eqb q p)) ≡ true → GivenIn (after desk first) calls q
     free q h fit =
-        let both = decides-and (decides-free (ticketAt (after desk first) q)) (decides-not (decides-eq q p)) .so fit in
-        given-earlier calls (after desk first) second q (another q (both .1))
-        (free-before-again desk first p g calls second again q h (both .1) (both .0))
+        let both = decides-and (decides-clear (ticketAt (after desk first) q)) (decides-not (decides-eq q p)) .so fit in
+        given-earlier calls (after desk first) second q
+        (λ given. both .1 (one-place (afterAll (after desk first) calls) second q p given again))
+        (free-before-again desk first p g calls second again q h (both .1) (both .0 .0)
+        (each-while _ (clear-free (ticketAt (after desk first) q) (both .0)) (calls ++ (second ∷ [])) (after desk first)))
 
 -- on a desk without tickets there are 94 others
 pub fresh-others : othersFree freshDesk 0 ≡ 94

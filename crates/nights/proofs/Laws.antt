@@ -7,13 +7,12 @@ use mathlib.Core.Logic.{_≢_}
 use mathlib.Core.Option.{Option, some, none}
 use Prim.Native.Nat.{ℕ, zero, suc, _+_, _-_, _≤_, _<_}
 use native.Mathlib.Omega.{arith}
-use borrow.Author.Tests.{eqb-true, eqb-false, not-false, le-leb}
+use borrow.Author.Tests.{eqb-true, eqb-false, not-false}
 use lib.Dec.{eqb, leb}
 use lib.ListN.{length, getD, set, replicate, length-set, length-replicate}
-use Rattle.desk.proofs.Calls.{live-host}
-use Rattle.desk.proofs.Laws.{answers-alone, withdraws-alone, given-at, fit-to-open, fit-to-book, fit-to-cancel, fit-to-expire}
+use Rattle.desk.proofs.Laws.{open-within, answers-alone, withdraws-alone, given-at, fit-to-open, fit-to-book, fit-to-cancel, fit-to-expire}
 use Rattle.desk.specs.Close.{cancelRefusal, duePlace, expireRefusal, closeAnswer, closeDesk, withdrawnOn, Cancels, Expires}
-use Rattle.desk.specs.Desk.{freshDesk, ticketAt, ticketOn, OpenOn}
+use Rattle.desk.specs.Desk.{freshDesk, ticketAt, ticketOn, OpenOn, putAt}
 use Rattle.desk.specs.Open.{givenPlace, requestAt, openRefusal, openAnswer, withTicket, openDesk, Opens}
 use Rattle.desk.specs.Outcome.{Given, ClosedAlone}
 use Rattle.desk.specs.Reply.{replyRefusal, bookAnswer, bookDesk, answeredOn, Replies}
@@ -21,6 +20,7 @@ use Rattle.desk.specs.declared.Desk.{Desk}
 use Rattle.desk.specs.declared.Fault.{Fault}
 use Rattle.desk.specs.declared.Opening.{Opening}
 use Rattle.desk.specs.declared.Booking.{Booking}
+use Rattle.desk.specs.declared.Closing.{Closing}
 use Rattle.desk.specs.declared.AfterOpen.{AfterOpen}
 use Rattle.desk.specs.declared.AfterReply.{AfterReply}
 use Rattle.desk.specs.declared.AfterClose.{AfterClose}
@@ -30,11 +30,13 @@ use Rattle.request.specs.declared.Request.{Request}
 use Rattle.rows.proofs.Laws.{decides-le, decides-eq, decides-or, decides-and, first-false}
 use Rattle.telegram.specs.Read.{fieldsIn}
 use Rattle.telegram.specs.declared.Fields.{Fields}
-use Rattle.ticket.specs.Ticket.{Open, Free, noTicket, newTicket}
+use Rattle.ticket.proofs.Laws.{rested}
+use Rattle.ticket.specs.Rest.{Free}
+use Rattle.ticket.specs.Ticket.{Open, noTicket, newTicket, withdrawnAt}
 use Rattle.ticket.specs.declared.Ticket.{Ticket}
 use Rattle.nights.specs.Night.{Call, Event, after, ofOpening, ofBooking, ofClosing, eventOf, afterAll, answeredAll}
-use Rattle.nights.specs.Night.{standing, Fitting, Right, whereOpen, Kept, SoundRequest, SoundDesk, Night}
-use Rattle.nights.specs.Night.{asks, brings, cancels, expires, opened, booked, withdrawn, nothing}
+use Rattle.nights.specs.Night.{Last, lastOn, MayBeGiven, Fitting, Theirs, Right, kept, Kept, SoundRequest, SoundDesk, Night}
+use Rattle.nights.specs.Night.{asks, brings, cancels, expires, opened, booked, withdrawn, nothing, never, stands, answered, givenUp}
 
 -- each ticket after a store is sound, if those before it are and the new one is, or is none
 sound-store : (tickets : List Ticket) (place : ℕ) (ticket : Ticket)
@@ -69,20 +71,27 @@ allowed-sound asked bytes e =
 
 -- ---- one opening or closing more
 
-shows-open : (ticket : Ticket) → Open ticket → whereOpen ticket ≡ some ticket
-shows-open ticket e = rw e
+-- what is kept of the last ticket tells what became of it
+open-last : (l : Last) → Open (kept l) → (asked : Request) × (clock : ℕ) × (l ≡ stands asked clock)
+open-last never live = absurd (true≢false (sym live))
+open-last (stands asked clock) live = (asked, clock, refl)
+open-last answered live = absurd (true≢false (sym live))
+open-last (givenUp clock) live = absurd (true≢false (sym live))
 
-shows-none : (ticket : Ticket) → Free ticket → whereOpen ticket ≡ none
-shows-none ticket e = rw e
+free-last : (l : Last) (clock : ℕ) → Free clock (kept l) → MayBeGiven l clock
+free-last never clock free = tt
+free-last (stands asked opening) clock free = true≢false (free .0)
+free-last answered clock free = tt
+free-last (givenUp closing) clock free = rested clock closing free
 
 quiet : {desk : Desk} {past : List Event} → Night desk past → Night desk (nothing ∷ past)
-unfolding Kept Right standing
+unfolding Kept Right lastOn
 quiet n = record { sound = n .sound; kept = n .kept; right = n .right }
 
 given : (desk : Desk) (past : List Event) (asked : Request) (clock : ℕ) → Night desk past
-    → Given desk asked clock (161 + givenPlace desk) (withTicket desk (givenPlace desk) (newTicket asked clock)) → SoundRequest asked
-    → Night (withTicket desk (givenPlace desk) (newTicket asked clock)) (opened (161 + givenPlace desk) (newTicket asked clock) ∷ past)
-unfolding Kept Right standing
+    → Given desk asked clock (161 + givenPlace desk clock) (withTicket desk (givenPlace desk clock) (newTicket asked clock)) → SoundRequest asked
+    → Night (withTicket desk (givenPlace desk clock) (newTicket asked clock)) (opened (161 + givenPlace desk clock) asked clock ∷ past)
+unfolding Kept Right lastOn
 given desk past asked clock n g new =
     record {
       sound =
@@ -92,38 +101,37 @@ given desk past asked clock n g new =
             sound = sound-store (desk .tickets) place ticket (n .sound .sound) (λ l. new);
           };
       kept = λ x. on x (eqb x (161 + place)) refl;
-      right = (sym (n .kept (161 + place)) ∙ shows-none (ticketOn desk (161 + place)) (g .free), n .right);
+      right = (free-last (lastOn past (161 + place)) clock (rw (n .kept (161 + place)) at (g .free)), n .right);
     }
   where
     place : ℕ
-    place = givenPlace desk
+    place = givenPlace desk clock
 
     ticket : Ticket
     ticket = newTicket asked clock
 
-    on : (x : ℕ) (t : Bool) → eqb x (161 + givenPlace desk) ≡ t
-        → whereOpen (ticketOn (withTicket desk (givenPlace desk) ticket) x) ≡ cond t (some ticket) (standing past x)
+    on : (x : ℕ) (t : Bool) → eqb x (161 + givenPlace desk clock) ≡ t
+        → ticketOn (withTicket desk (givenPlace desk clock) ticket) x ≡ kept (cond t (stands asked clock) (lastOn past x))
     on x true e =
-        ap (λ (a : ℕ). whereOpen (ticketOn (withTicket desk (givenPlace desk) ticket) a)) (eqb-true x (161 + givenPlace desk) e)
-        ∙ ap whereOpen (g .stands)
-    on x false e = ap whereOpen (g .others x (eqb-false x (161 + givenPlace desk) e)) ∙ n .kept x
+        ap (λ (a : ℕ). ticketOn (withTicket desk (givenPlace desk clock) ticket) a) (eqb-true x (161 + givenPlace desk clock) e) ∙ g .stands
+    on x false e = g .others x (eqb-false x (161 + givenPlace desk clock) e) ∙ n .kept x
 
 -- whatever event says so: an address that was closed alone
-closed-kept : (desk : Desk) (past : List Event) (address : ℕ) (desk′ : Desk) → Night desk past → ClosedAlone desk address desk′
-    → (x : ℕ) → whereOpen (ticketOn desk′ x) ≡ cond (eqb x address) none (standing past x)
+closed-kept : (desk : Desk) (past : List Event) (address : ℕ) (l : Last) (desk′ : Desk) → Night desk past → ClosedAlone desk address (kept l) desk′
+    → (x : ℕ) → ticketOn desk′ x ≡ kept (cond (eqb x address) l (lastOn past x))
 unfolding Kept
-closed-kept desk past address desk′ n alone x = on (eqb x address) refl
+closed-kept desk past address l desk′ n alone x = on (eqb x address) refl
   where
-    on : (t : Bool) → eqb x address ≡ t → whereOpen (ticketOn desk′ x) ≡ cond t none (standing past x)
-    on true e = ap (λ (a : ℕ). whereOpen (ticketOn desk′ a)) (eqb-true x address e) ∙ ap whereOpen (alone .closed)
-    on false e = ap whereOpen (alone .others x (eqb-false x address e)) ∙ n .kept x
+    on : (t : Bool) → eqb x address ≡ t → ticketOn desk′ x ≡ kept (cond t l (lastOn past x))
+    on true e = ap (λ (a : ℕ). ticketOn desk′ a) (eqb-true x address e) ∙ alone .closed
+    on false e = alone .others x (eqb-false x address e) ∙ n .kept x
 
-emptied-sound : (desk : Desk) (place : ℕ) → SoundDesk desk → SoundDesk (record { turn = desk .turn; tickets = set (desk .tickets) place noTicket })
-emptied-sound desk place s =
+closed-sound : (desk : Desk) (place : ℕ) (left : Ticket) → left .live ≡ false → SoundDesk desk → SoundDesk (putAt desk place left)
+closed-sound desk place left shut s =
     record {
       turn-within = s .turn-within;
-      places = length-set (desk .tickets) place noTicket ∙ s .places;
-      sound = sound-store (desk .tickets) place noTicket (s .sound) (λ l. absurd (true≢false (sym l)));
+      places = length-set (desk .tickets) place left ∙ s .places;
+      sound = sound-store (desk .tickets) place left (s .sound) (λ l. absurd (true≢false (sym l ∙ shut)));
     }
 
 -- ---- one call
@@ -132,23 +140,26 @@ module _ (desk : Desk) (past : List Event) (n : Night desk past) where
   after-asks : (asked : Request) (bytes : List ℕ) (clock : ℕ) (room : List ℕ)
       → Night (after desk (asks asked bytes clock room)) (eventOf desk (asks asked bytes clock room) ∷ past)
   unfolding after eventOf
-  after-asks asked bytes clock room = go (openRefusal desk asked bytes (length room)) refl
+  after-asks asked bytes clock room = go (openRefusal desk asked bytes clock (length room)) refl
     where
-      go : (o : Option Fault) → openRefusal desk asked bytes (length room) ≡ o
-          → Night (openDesk o desk (givenPlace desk) (newTicket asked clock))
-          (ofOpening (openAnswer o (161 + givenPlace desk) (length (requestAt (givenPlace desk) asked bytes))) asked clock ∷ past)
+      go : (o : Option Fault) → openRefusal desk asked bytes clock (length room) ≡ o
+          → Night (openDesk o desk (givenPlace desk clock) (newTicket asked clock))
+          (ofOpening (openAnswer o (161 + givenPlace desk clock) (length (requestAt (givenPlace desk clock) asked bytes))) asked clock ∷ past)
       go (some f) e = quiet n
       go none e =
-          let fit = fit-to-open desk asked bytes (length room) e in
+          let fit = fit-to-open desk asked bytes clock (length room) e in
           given desk past asked clock n (given-at desk asked clock (n .sound .places) (fit .1)) (allowed-sound asked bytes (fit .0))
 
-  -- what stands on an address where a ticket is open
-  there : (address : ℕ) → OpenOn desk address → standing past address ≡ some (ticketOn desk address)
+  -- the opening of a ticket that is open
+  there : (address : ℕ) → OpenOn desk address
+      → (asked : Request) × (clock : ℕ) × (lastOn past address ≡ stands asked clock) × (ticketOn desk address ≡ newTicket asked clock)
   unfolding Kept
-  there address live = sym (n .kept address) ∙ shows-open (ticketOn desk address) live
+  there address live =
+      let s = open-last (lastOn past address) (ap (λ (t : Ticket). t .live) (sym (n .kept address)) ∙ live) in
+      (s .0, s .1, s .2, n .kept address ∙ ap kept (s .2))
 
   after-brings : (frame room : List ℕ) → Night (after desk (brings frame room)) (eventOf desk (brings frame room) ∷ past)
-  unfolding after eventOf Kept Right standing
+  unfolding after eventOf Kept Right lastOn
   after-brings frame room = go (replyRefusal desk frame (length room)) refl
     where
       t : Fields
@@ -159,39 +170,43 @@ module _ (desk : Desk) (past : List Event) (n : Night desk past) where
       go (some f) e = quiet n
       go none e =
           let fit = fit-to-book desk frame (length room) e in
+          let s = there (fieldsIn frame .destination) (fit .1) in
           record {
-            sound = emptied-sound desk (fieldsIn frame .destination - 161) (n .sound);
-            kept = closed-kept desk past (fieldsIn frame .destination) (answeredOn desk (fieldsIn frame .destination)) n (answers-alone desk _ (fit .1));
+            sound = closed-sound desk (fieldsIn frame .destination - 161) noTicket refl (n .sound);
+            kept =
+                closed-kept desk past (fieldsIn frame .destination) answered (answeredOn desk (fieldsIn frame .destination)) n (answers-alone desk _ (fit .1));
             right = (
               record {
-                ticket = ticketOn desk (fieldsIn frame .destination);
-                stands = there (fieldsIn frame .destination) (fit .1);
-                theirs = refl;
-                from-module = fit .2;
-                kind-fits = fit .3;
-                register-fits = fit .4;
+                asked = s .0;
+                opening = s .1;
+                is-open = s .2;
+                theirs = ap (λ (x : Ticket). x .asked .job) (s .3);
+                from-module = fit .2 ∙ ap (λ (x : Ticket). x .asked .unit) (s .3);
+                kind-fits = rw (s .3) at (fit .3);
+                register-fits = rw (s .3) at (fit .4);
               },
               n .right,
             );
           }
 
-  after-closing : (o : Option Fault) (address : ℕ) → (o ≡ none → OpenOn desk address)
-      → Night (closeDesk o desk address) (ofClosing (closeAnswer o (ticketOn desk address) address) ∷ past)
-  unfolding Kept Right standing
-  after-closing (some f) address live = quiet n
-  after-closing none address live =
+  after-closing : (o : Option Fault) (address clock : ℕ) → (o ≡ none → OpenOn desk address)
+      → Night (closeDesk o desk address clock) (ofClosing (closeAnswer o (ticketOn desk address) address) clock ∷ past)
+  unfolding Kept Right lastOn
+  after-closing (some f) address clock live = quiet n
+  after-closing none address clock live =
+      let s = there address (live refl) in
       record {
-        sound = emptied-sound desk (address - 161) (n .sound);
-        kept = closed-kept desk past address (withdrawnOn desk address) n (withdraws-alone desk address (live refl));
-        right = ((ticketOn desk address, there address (live refl), refl), n .right);
+        sound = closed-sound desk (address - 161) (withdrawnAt clock) refl (n .sound);
+        kept = closed-kept desk past address (givenUp clock) (withdrawnOn desk address clock) n (withdraws-alone desk address clock (live refl));
+        right = (record { asked = s .0; opening = s .1; is-open = s .2; theirs = ap (λ (x : Ticket). x .asked .job) (s .3) }, n .right);
       }
 
   pub step : (call : Call) → Night (after desk call) (eventOf desk call ∷ past)
   unfolding after eventOf
   step (asks asked bytes clock room) = after-asks asked bytes clock room
   step (brings frame room) = after-brings frame room
-  step (cancels job address) = after-closing (cancelRefusal desk job address) address (λ e. fit-to-cancel desk job address e .0)
-  step (expires clock) = after-closing (expireRefusal desk clock) (161 + duePlace desk clock) (λ e. fit-to-expire desk clock e .1 .0)
+  step (cancels job address clock) = after-closing (cancelRefusal desk job address) address clock (λ e. fit-to-cancel desk job address e .0)
+  step (expires clock) = after-closing (expireRefusal desk clock) (161 + duePlace desk clock) clock (λ e. fit-to-expire desk clock e .1 .0)
 
 -- ---- any sequence
 
@@ -208,7 +223,7 @@ no-ticket address = go (leb 161 address)
     go false = refl
 
 fresh-night : Night freshDesk []
-unfolding Kept Right standing
+unfolding Kept Right lastOn
 fresh-night =
     record {
       sound =
@@ -217,7 +232,7 @@ fresh-night =
             places = length-replicate 95 noTicket;
             sound = λ place live. absurd (true≢false (sym live ∙ ap (λ (t : Ticket). t .live) (empty-place 95 place)));
           };
-      kept = λ address. ap whereOpen (no-ticket address);
+      kept = λ address. no-ticket address;
       right = tt;
     }
 
@@ -227,8 +242,9 @@ night-on [] desk past n = n
 night-on (call ∷ calls) desk past n = night-on calls (after desk call) (eventOf desk call ∷ past) (step desk past n call)
 
 -- from a fresh desk on, after any calls: what stands on each address is exactly the ticket of the last opening there with no closing since,
--- or none; an address is given only where nothing stands; every booking fits that opening's module, kind and register and answers its job;
--- every cancel and expiry answers that opening's job and address; and the desk is sound
+-- or what is kept of one that was cancelled or expired, or nothing; an address is given only where no ticket stands and where it does not
+-- rest; every booking fits that opening's module, kind and register and answers its job; every cancel and expiry answers that opening's job
+-- and address; and the desk is sound
 pub any-night : (calls : List Call) → Night (afterAll freshDesk calls) (answeredAll freshDesk [] calls)
 any-night calls = night-on calls freshDesk [] fresh-night
 
@@ -243,31 +259,23 @@ module _ (calls : List Call) (call : Call) where
   right-then : Right (eventOf desk-then call ∷ past-then)
   right-then = step desk-then past-then (any-night calls) call .right
 
-  pub opened-where-none : (address : ℕ) (ticket : Ticket) → eventOf desk-then call ≡ opened address ticket → standing past-then address ≡ none
+  pub opened-where-free : (address : ℕ) (asked : Request) (clock : ℕ) → eventOf desk-then call ≡ opened address asked clock
+      → MayBeGiven (lastOn past-then address) clock
   unfolding Right
-  opened-where-none address ticket e = (rw e at right-then) .0
+  opened-where-free address asked clock e = (rw e at right-then) .0
 
   pub booked-where-fits : (job address source sort register : ℕ) → eventOf desk-then call ≡ booked job address source sort register
-      → Fitting (standing past-then address) job source sort register
+      → Fitting (lastOn past-then address) job source sort register
   unfolding Right
   booked-where-fits job address source sort register e = (rw e at right-then) .0
 
-  pub withdrawn-where-theirs : (job address : ℕ) → eventOf desk-then call ≡ withdrawn job address
-      → (ticket : Ticket) × (standing past-then address ≡ some ticket) × (job ≡ ticket .asked .job)
+  pub withdrawn-where-theirs : (job address clock : ℕ) → eventOf desk-then call ≡ withdrawn job address clock → Theirs (lastOn past-then address) job
   unfolding Right
-  withdrawn-where-theirs job address e = (rw e at right-then) .0
-
-live-within : (tickets : List Ticket) (i : ℕ) → getD tickets i noTicket .live ≡ true → i < length tickets
-live-within [] i e = absurd (true≢false (sym e))
-live-within (t ∷ tickets) zero e = omega arith
-live-within (t ∷ tickets) (suc i) e = let h : i < length tickets = live-within tickets i e in omega arith
+  withdrawn-where-theirs job address clock e = (rw e at right-then) .0
 
 -- at most one ticket to an address and at most 95 in all: a ticket is open on a host address or not at all
 pub on-hosts-only : (desk : Desk) → SoundDesk desk → (address : ℕ) → OpenOn desk address → (161 ≤ address) × (address ≤ 255)
-on-hosts-only desk s address live =
-    let host = live-host desk address live in
-    let there : ticketAt desk (address - 161) .live ≡ true = rw (le-leb 161 address host) at live in
-    (host, omega (arith, live-within (desk .tickets) (address - 161) there, s .places))
+on-hosts-only desk s address live = let within = open-within desk address live in (within .0, omega (arith, within .1, s .places))
 
 -- ---- these are the desks and answers of the contracts
 
@@ -282,12 +290,12 @@ pub replies-after : (desk : Desk) (frame room : List ℕ) (r : AfterReply) (room
 unfolding after eventOf
 replies-after desk frame room r room′ o = (o .1, ap (λ (a : Booking). ofBooking a frame) (o .0))
 
-pub cancels-after : (desk : Desk) (job address : ℕ) (r : AfterClose) → Cancels desk job address r
-    → (r .desk ≡ after desk (cancels job address)) × (ofClosing (r .answer) ≡ eventOf desk (cancels job address))
+pub cancels-after : (desk : Desk) (job address clock : ℕ) (r : AfterClose) → Cancels desk job address clock r
+    → (r .desk ≡ after desk (cancels job address clock)) × (ofClosing (r .answer) clock ≡ eventOf desk (cancels job address clock))
 unfolding after eventOf
-cancels-after desk job address r o = (o .1, ap ofClosing (o .0))
+cancels-after desk job address clock r o = (o .1, ap (λ (a : Closing). ofClosing a clock) (o .0))
 
 pub expires-after : (desk : Desk) (clock : ℕ) (r : AfterClose) → Expires desk clock r
-    → (r .desk ≡ after desk (expires clock)) × (ofClosing (r .answer) ≡ eventOf desk (expires clock))
+    → (r .desk ≡ after desk (expires clock)) × (ofClosing (r .answer) clock ≡ eventOf desk (expires clock))
 unfolding after eventOf
-expires-after desk clock r o = (o .1, ap ofClosing (o .0))
+expires-after desk clock r o = (o .1, ap (λ (a : Closing). ofClosing a clock) (o .0))

@@ -1,3 +1,4 @@
 pub mod Laws
 pub mod Fair
 pub mod Count
+pub mod Late

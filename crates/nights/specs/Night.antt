@@ -4,7 +4,6 @@ use mathlib.Core.Path.{_≡_}
 use mathlib.Core.Bool.{cond}
 use mathlib.Core.List.{List, [], _∷_}
 use mathlib.Core.Logic.{_≢_, _⊎_}
-use mathlib.Core.Option.{Option, some, none}
 use Prim.Native.Nat.{ℕ, _+_, _≤_, _<_}
 use lib.Dec.{eqb}
 use lib.ListN.{length}
@@ -21,54 +20,56 @@ use Rattle.desk.specs.declared.Booking.the-variants.{Booked, Refused as NotBook
 use Rattle.desk.specs.declared.Closing.the-variants.{Closed, Refused as NotClosed}
 use Rattle.request.specs.declared.Request.{Request}
 use Rattle.telegram.specs.Read.{fieldsIn}
+use Rattle.ticket.specs.Due.{age}
 use Rattle.ticket.specs.Fit.{KindFits, RegisterFits}
-use Rattle.ticket.specs.Ticket.{Open, newTicket}
+use Rattle.ticket.specs.Ticket.{Open, noTicket, newTicket, withdrawnAt}
 use Rattle.ticket.specs.declared.Ticket.{Ticket}
 
 -- a call, with what it was given; `room` is the lent buffer
 pub data Call : Type 0 where
   asks : (asked : Request) (bytes : List ℕ) (clock : ℕ) (room : List ℕ) → Call
   brings : (frame room : List ℕ) → Call
-  cancels : (job address : ℕ) → Call
+  cancels : (job address clock : ℕ) → Call
   expires : (clock : ℕ) → Call
 
--- what the caller saw: the address that was answered with the whole ticket that was asked for; the job and address that were answered with
--- what came, its source, type and register; or the job and address of a ticket that was cancelled or expired
+-- what the caller saw: the address that was answered, with the whole request that was asked and the clock; the job and address that were
+-- answered with what came, its source, type and register; or the job and address of a ticket that was cancelled or expired, and the clock
 pub data Event : Type 0 where
-  opened : (address : ℕ) (ticket : Ticket) → Event
+  opened : (address : ℕ) (asked : Request) (clock : ℕ) → Event
   booked : (job address source sort register : ℕ) → Event
-  withdrawn : (job address : ℕ) → Event
+  withdrawn : (job address clock : ℕ) → Event
   nothing : Event
 
 -- the desk after a call, and what was answered, as the contracts of `open`, `reply`, `cancel` and `expire` say
 unfoldable pub after : Desk → Call → Desk
 after desk (asks asked bytes clock room) =
-    openDesk (openRefusal desk asked bytes (length room)) desk (givenPlace desk) (newTicket asked clock)
+    openDesk (openRefusal desk asked bytes clock (length room)) desk (givenPlace desk clock) (newTicket asked clock)
 after desk (brings frame room) = bookDesk (replyRefusal desk frame (length room)) desk (fieldsIn frame)
-after desk (cancels job address) = closeDesk (cancelRefusal desk job address) desk address
-after desk (expires clock) = closeDesk (expireRefusal desk clock) desk (161 + duePlace desk clock)
+after desk (cancels job address clock) = closeDesk (cancelRefusal desk job address) desk address clock
+after desk (expires clock) = closeDesk (expireRefusal desk clock) desk (161 + duePlace desk clock) clock
 
 abbrev pub ofOpening : Opening → Request → ℕ → Event
-ofOpening (Opened address n) asked clock = opened address (newTicket asked clock)
+ofOpening (Opened address n) asked clock = opened address asked clock
 ofOpening (NotOpened f) asked clock = nothing
 
 abbrev pub ofBooking : Booking → List ℕ → Event
 ofBooking (Booked job address sort n) frame = booked job address (fieldsIn frame .source) sort (fieldsIn frame .register)
 ofBooking (NotBooked f) frame = nothing
 
-abbrev pub ofClosing : Closing → Event
-ofClosing (Closed job address) = withdrawn job address
-ofClosing (NotClosed f) = nothing
+abbrev pub ofClosing : Closing → ℕ → Event
+ofClosing (Closed job address) clock = withdrawn job address clock
+ofClosing (NotClosed f) clock = nothing
 
 unfoldable pub eventOf : Desk → Call → Event
 eventOf desk (asks asked bytes clock room) =
     ofOpening
-    (openAnswer (openRefusal desk asked bytes (length room)) (161 + givenPlace desk) (length (requestAt (givenPlace desk) asked bytes))) asked clock
+    (openAnswer (openRefusal desk asked bytes clock (length room)) (161 + givenPlace desk clock) (length (requestAt (givenPlace desk clock) asked bytes)))
+    asked clock
 eventOf desk (brings frame room) =
     ofBooking (bookAnswer (replyRefusal desk frame (length room)) (ticketOn desk (fieldsIn frame .destination)) (fieldsIn frame)) frame
-eventOf desk (cancels job address) = ofClosing (closeAnswer (cancelRefusal desk job address) (ticketOn desk address) address)
+eventOf desk (cancels job address clock) = ofClosing (closeAnswer (cancelRefusal desk job address) (ticketOn desk address) address) clock
 eventOf desk (expires clock) =
-    ofClosing (closeAnswer (expireRefusal desk clock) (ticketOn desk (161 + duePlace desk clock)) (161 + duePlace desk clock))
+    ofClosing (closeAnswer (expireRefusal desk clock) (ticketOn desk (161 + duePlace desk clock)) (161 + duePlace desk clock)) clock
 
 -- the desk after a sequence of calls, and all that was answered, the latest first
 unfoldable pub afterAll : Desk → List Call → Desk
@@ -79,41 +80,67 @@ unfoldable pub answeredAll : Desk → List Event → List Call → List Event
 answeredAll desk past [] = past
 answeredAll desk past (c ∷ cs) = answeredAll (after desk c) (eventOf desk c ∷ past) cs
 
--- ---- the accident: what stands on an address, by what the callers saw alone
+-- ---- the accident, and late answers: what became of the last ticket on an address, by what the callers saw alone
 
--- the ticket of the last opening there with no closing since, or none
-unfoldable pub standing : List Event → ℕ → Option Ticket
-standing [] a = none
-standing (opened address ticket ∷ past) a = cond (eqb a address) (some ticket) (standing past a)
-standing (booked job address source sort register ∷ past) a = cond (eqb a address) none (standing past a)
-standing (withdrawn job address ∷ past) a = cond (eqb a address) none (standing past a)
-standing (nothing ∷ past) a = standing past a
+-- there never was one; it stands open, with its request and the clock of its opening; its reply was booked; it was cancelled or expired at a
+-- clock
+pub data Last : Type 0 where
+  never : Last
+  stands : (asked : Request) (clock : ℕ) → Last
+  answered : Last
+  givenUp : (clock : ℕ) → Last
+
+-- by the last opening or closing there
+unfoldable pub lastOn : List Event → ℕ → Last
+lastOn [] a = never
+lastOn (opened address asked clock ∷ past) a = cond (eqb a address) (stands asked clock) (lastOn past a)
+lastOn (booked job address source sort register ∷ past) a = cond (eqb a address) answered (lastOn past a)
+lastOn (withdrawn job address clock ∷ past) a = cond (eqb a address) (givenUp clock) (lastOn past a)
+lastOn (nothing ∷ past) a = lastOn past a
+
+-- the address may be given at a clock: no ticket stands there, and it does not rest
+abbrev pub MayBeGiven : Last → ℕ → Type 0
+MayBeGiven never clock = Unit {0}
+MayBeGiven (stands asked opening) clock = ⊥
+MayBeGiven answered clock = Unit {0}
+MayBeGiven (givenUp closing) clock = 1000 ≤ age clock closing
 
 -- what came fits the opening that stands there, and its job was answered
-pub record Fitting (there : Option Ticket) (job source sort register : ℕ) : Type 0 where
-  pub ticket : Ticket
-  pub stands : there ≡ some ticket
-  pub theirs : job ≡ ticket .asked .job
-  pub from-module : source ≡ ticket .asked .unit
-  pub kind-fits : KindFits (ticket .asked .sort) sort
-  pub register-fits : RegisterFits (ticket .asked .register) sort register
+pub record Fitting (there : Last) (job source sort register : ℕ) : Type 0 where
+  pub asked : Request
+  pub opening : ℕ
+  pub is-open : there ≡ stands asked opening
+  pub theirs : job ≡ asked .job
+  pub from-module : source ≡ asked .unit
+  pub kind-fits : KindFits (asked .sort) sort
+  pub register-fits : RegisterFits (asked .register) sort register
 
--- an address is given only where nothing stands; every booking fits that opening's module, kind and register and answers its job; every
--- cancel and expiry answers that opening's job and address
+-- the job of the opening that stands there was answered
+pub record Theirs (there : Last) (job : ℕ) : Type 0 where
+  pub asked : Request
+  pub opening : ℕ
+  pub is-open : there ≡ stands asked opening
+  pub theirs : job ≡ asked .job
+
+-- an address is given only where no ticket stands and where it does not rest; every booking fits that opening's module, kind and register and
+-- answers its job; every cancel and expiry answers that opening's job and address
 unfoldable pub Right : List Event → Type 0
 Right [] = Unit {0}
-Right (opened address ticket ∷ past) = (standing past address ≡ none) × Right past
-Right (booked job address source sort register ∷ past) = Fitting (standing past address) job source sort register × Right past
-Right (withdrawn job address ∷ past) = ((ticket : Ticket) × (standing past address ≡ some ticket) × (job ≡ ticket .asked .job)) × Right past
+Right (opened address asked clock ∷ past) = MayBeGiven (lastOn past address) clock × Right past
+Right (booked job address source sort register ∷ past) = Fitting (lastOn past address) job source sort register × Right past
+Right (withdrawn job address clock ∷ past) = Theirs (lastOn past address) job × Right past
 Right (nothing ∷ past) = Right past
 
--- the ticket, where it is open
-abbrev pub whereOpen : Ticket → Option Ticket
-whereOpen ticket = cond (ticket .live) (some ticket) none
+-- what the desk keeps of it
+abbrev pub kept : Last → Ticket
+kept never = noTicket
+kept (stands asked clock) = newTicket asked clock
+kept answered = noTicket
+kept (givenUp clock) = withdrawnAt clock
 
 -- what stands on each address is exactly that
 unfoldable pub Kept : Desk → List Event → Type 0
-Kept desk past = (address : ℕ) → whereOpen (ticketOn desk address) ≡ standing past address
+Kept desk past = (address : ℕ) → ticketOn desk address ≡ kept (lastOn past address)
 
 -- ---- what every desk keeps to
 

@@ -1,4 +1,4 @@
--- The turn's round: which places an opening gives, and which it passes over because they are not free.
+-- The turn's round: which places an opening gives, and which it passes over because they are open or rest.
 -- Assumes nothing.
 use mathlib.Core.Path.{_≡_}
 use mathlib.Core.Bool.{Bool, cond, not, _&&_}
@@ -9,21 +9,27 @@ use lib.Dec.{eqb}
 use Rattle.desk.specs.Desk.{ticketAt}
 use Rattle.desk.specs.Open.{placeFrom, distanceOf, givenPlace}
 use Rattle.desk.specs.declared.Desk.{Desk}
-use Rattle.ticket.specs.Ticket.{Free, isFree}
+use Rattle.request.specs.declared.Request.{Request}
+use Rattle.ticket.specs.Rest.{Rests}
+use Rattle.ticket.specs.Ticket.{Open}
 use Rattle.ticket.specs.declared.Ticket.{Ticket}
 use Rattle.nights.specs.Night.{Call, Event, after, eventOf}
 use Rattle.nights.specs.Night.{opened, booked, withdrawn, nothing}
 
--- the caller saw that the address of the place was given
-unfoldable pub Gives : Desk → Call → ℕ → Type 0
-Gives desk call place = (ticket : Ticket) × (eventOf desk call ≡ opened (161 + place) ticket)
+-- the caller saw that the address of the place was given at a clock
+unfoldable pub GivesAt : Desk → Call → ℕ → ℕ → Type 0
+GivesAt desk call place clock = (asked : Request) × (eventOf desk call ≡ opened (161 + place) asked clock)
 
--- the call gives another place, and passes this one over because it is not free
+abbrev pub Gives : Desk → Call → ℕ → Type 0
+Gives desk call place = (clock : ℕ) × GivesAt desk call place clock
+
+-- the call gives another place, and passes this one over because it is open or rests at the call's clock
 unfoldable pub PassesOver : Desk → Call → ℕ → Type 0
 PassesOver desk call place =
-    Gives desk call (givenPlace desk)
-    × ((k : ℕ) × (k < distanceOf desk) × (place ≡ placeFrom (desk .turn) k))
-    × (Free (ticketAt desk place) → ⊥)
+    (clock : ℕ)
+    × GivesAt desk call (givenPlace desk clock) clock
+    × ((k : ℕ) × (k < distanceOf desk clock) × (place ≡ placeFrom (desk .turn) k))
+    × (Open (ticketAt desk place) ⊎ Rests clock (ticketAt desk place))
 
 -- one of the calls gives the place or passes it over
 unfoldable pub Met : Desk → List Call → ℕ → Type 0
@@ -35,13 +41,18 @@ unfoldable pub GivenIn : Desk → List Call → ℕ → Type 0
 GivenIn desk [] place = ⊥
 GivenIn desk (c ∷ cs) place = Gives desk c place ⊎ GivenIn (after desk c) cs place
 
+-- each call that gives an address does it at such a clock
+unfoldable pub OpensWhile : (ℕ → Type 0) → Desk → List Call → Type 0
+OpensWhile such desk [] = Unit {0}
+OpensWhile such desk (c ∷ cs) = ((place clock : ℕ) → GivesAt desk c place clock → such clock) × OpensWhile such (after desk c) cs
+
 -- ---- how many openings lie between two that give one address
 
 -- an answer that gives an address counts as one opening
 abbrev pub oneOpening : Event → ℕ
-oneOpening (opened address ticket) = 1
+oneOpening (opened address asked clock) = 1
 oneOpening (booked job address source sort register) = 0
-oneOpening (withdrawn job address) = 0
+oneOpening (withdrawn job address clock) = 0
 oneOpening nothing = 0
 
 -- how many of the calls are openings, by their answers
@@ -54,6 +65,10 @@ unfoldable pub countOf : (ℕ → Bool) → ℕ → ℕ
 countOf fits zero = 0
 countOf fits (suc n) = cond (fits n) 1 0 + countOf fits n
 
--- how many addresses other than the one at the place are free
+-- free at whatever clock: no ticket is open, and the last one was not cancelled and did not expire
+abbrev pub isClear : Ticket → Bool
+isClear ticket = not (ticket .live) && not (ticket .withdrawn)
+
+-- how many addresses other than the one at the place are free at whatever clock
 unfoldable pub othersFree : Desk → ℕ → ℕ
-othersFree desk place = countOf (λ other. isFree (ticketAt desk other) && not (eqb other place)) 95
+othersFree desk place = countOf (λ other. isClear (ticketAt desk other) && not (eqb other place)) 95

@@ -38,7 +38,7 @@ pub use Rattle.kamzhor.proofs.Laws.{gives-frame-settled, gives-value-settled, g
 
 -- rows 1 to 9
 pub use Rattle.telegram.proofs.Ranking.{read-exactly, examine-exactly, write-exactly}
--- rows 10 to 22
+-- rows 10 to 22, and 61
 pub use Rattle.request.proofs.Laws.{ask-exactly}
 pub use Rattle.ticket.proofs.Laws.{fit-exactly}
 pub use Rattle.desk.proofs.Ranking.{open-exactly, reply-exactly, cancel-exactly, expire-exactly}

@@ -16,9 +16,10 @@ use Rattle.telegram.specs.declared.Reading.the-variants.{Telegram}
 use Rattle.desk.proofs.Laws.{answers-alone}
 use Rattle.desk.specs.Outcome.{ClosedAlone}
 use Rattle.ticket.proofs.Laws.{fit-ranked}
-use Rattle.ticket.specs.Fit.{KindFits, RegisterFits, IsNoTicket, IsOtherModule, IsOtherKind, IsOtherRegister, fitRows, fitRefusal}
+use Rattle.ticket.specs.Fit.{KindFits, RegisterFits, IsWithdrawn, IsNoTicket, IsOtherModule, IsOtherKind, IsOtherRegister, fitRows, fitRefusal}
 use Rattle.desk.specs.Reply.{bookRefusal, replyRefusal, answeredOn, Replies}
 use Rattle.desk.specs.Desk.{ticketOn, OpenOn}
+use Rattle.ticket.specs.Ticket.{noTicket}
 use Rattle.ticket.specs.declared.Ticket.{Ticket}
 use Rattle.desk.specs.declared.Desk.{Desk}
 use Rattle.desk.specs.declared.Booking.the-variants.{Booked}
@@ -50,15 +51,18 @@ pub use Rattle.bench.proofs.Kept.{made-sound}
 -- ---- "and the desk its listed rules": the address that is given, the request that is written, the tickets that are closed
 pub use Rattle.desk.proofs.Laws.{fresh-is, fresh-opens, opened-given, request-written, request-reads-back}
 pub use Rattle.desk.proofs.Laws.{booked-right, cancelled-right, expired-right, unread-passed-up}
-pub use Rattle.desk.proofs.Laws.{look-open, look-nothing}
+pub use Rattle.desk.proofs.Laws.{look-open, look-withdrawn, look-nothing}
 pub use Rattle.ticket.proofs.Laws.{read-answered-by, write-answered-by, zero-carried-by, own-carried-by, other-carried-by}
 pub use Rattle.ticket.proofs.Laws.{tells-free, tells-due, age-after, age-set-back, set-back-due}
+pub use Rattle.ticket.proofs.Laws.{rests-under-1000, free-from-1000, rests-again, set-back-free}
 -- over any sequence of calls from a fresh desk: what stands on each address, that each answer belongs to the opening that stands there, and
 -- that the turn is fair
 pub use Rattle.nights.proofs.Laws.{any-night, on-hosts-only, opens-after, replies-after, cancels-after, expires-after}
-pub use Rattle.nights.proofs.Laws.{opened-where-none, booked-where-fits, withdrawn-where-theirs}
+pub use Rattle.nights.proofs.Laws.{opened-where-free, booked-where-fits, withdrawn-where-theirs}
 pub use Rattle.nights.proofs.Fair.{opened-gives, turn-fair, free-before-again}
-pub use Rattle.nights.proofs.Count.{openings-between}
+pub use Rattle.nights.proofs.Count.{clear-exactly, openings-between}
+-- 02, #102: after a cancel or an expiry the address rests, and a late answer is told as one; both before the address is given again
+pub use Rattle.nights.proofs.Late.{kept-then, rested-before-again, late-refused, nothing-booked, late-exactly, no-ticket-exactly}
 
 -- ---- "A reply closes exactly the ticket open on its host address, and only where module, reply kind and register fit it."
 
@@ -70,14 +74,15 @@ pub fitting-booked : (desk : Desk) (frame room : List ℕ) (r : AfterReply) (roo
     → KindFits (ticketOn desk (t .destination) .asked .sort) (t .sort)
     → RegisterFits (ticketOn desk (t .destination) .asked .register) (t .sort) (t .register)
     → (r .answer ≡ Booked (ticketOn desk (t .destination) .asked .job) (t .destination) (t .sort) (t .size))
-    × ClosedAlone desk (t .destination) (r .desk)
+    × ClosedAlone desk (t .destination) noTicket (r .desk)
     × (room′ ≡ over (dataIn frame) room)
-unfolding replyRefusal bookRefusal fitRows IsNoTicket IsOtherModule IsOtherKind IsOtherRegister
+unfolding replyRefusal bookRefusal fitRows IsWithdrawn IsNoTicket IsOtherModule IsOtherKind IsOtherRegister
 fitting-booked desk frame room r room′ replies t read live unit kind register =
     let told = reading-telegram frame (length room) t read in
     let ticket : Ticket = ticketOn desk (t .destination) in
     let fits : fitRefusal ticket t ≡ none =
-    done-exactly (fitRows ticket t) (fitRefusal ticket t) (fit-ranked ticket t) .1 ((λ n. n live), ((λ n. n unit), ((λ n. n kind), ((λ n. n register), tt)))) in
+    done-exactly (fitRows ticket t) (fitRefusal ticket t) (fit-ranked ticket t) .1
+    ((λ n. n .0 live), ((λ n. n live), ((λ n. n unit), ((λ n. n kind), ((λ n. n register), tt))))) in
     let none-of : replyRefusal desk frame (length room) ≡ none = rw (told .0, ← told .1, fits) in
     let closing : r .desk ≡ answeredOn desk (t .destination) = replies .1 ∙ rw (none-of, ← told .1) in
     (replies .0 ∙ rw (none-of, ← told .1), rw closing (answers-alone desk (t .destination) live), replies .2 ∙ rw none-of)

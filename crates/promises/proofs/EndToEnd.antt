@@ -36,13 +36,13 @@ use Rattle.bench.specs.declared.AfterTake.{AfterTake}
 use Rattle.request.proofs.Laws.{ask-ranked, allowed-writable}
 use Rattle.request.specs.Request.{IsWrongData, askRows, askRefusal}
 use Rattle.ticket.proofs.Laws.{fit-ranked}
-use Rattle.ticket.specs.Fit.{KindFits, RegisterFits, IsNoTicket, IsOtherModule, IsOtherKind, IsOtherRegister, fitRows, fitRefusal}
+use Rattle.ticket.specs.Fit.{KindFits, RegisterFits, IsWithdrawn, IsNoTicket, IsOtherModule, IsOtherKind, IsOtherRegister, fitRows, fitRefusal}
 use Rattle.ticket.specs.declared.Fault.the-variants.{OtherModule}
 use Rattle.ticket.specs.declared.Ticket.{Ticket}
 use Rattle.desk.proofs.Laws.{opened-fit, opened-given, fit-to-open, answers-alone, request-reads-back}
 use Rattle.desk.specs.Outcome.{ClosedAlone}
 use Rattle.desk.specs.Open.{givenPlace, requestAt, openRefusal, Opens}
-use Rattle.ticket.specs.Ticket.{newTicket}
+use Rattle.ticket.specs.Ticket.{noTicket, newTicket}
 use Rattle.request.specs.declared.Request.{Request}
 use Rattle.desk.specs.Reply.{bookRefusal, replyRefusal, answeredOn, Replies}
 use Rattle.desk.specs.Desk.{ticketOn, OpenOn}
@@ -112,11 +112,13 @@ module _ (desk : Desk) (sound : SoundDesk desk) (asked : Request) (bytes : List 
   abbrev ticket : Ticket
   ticket = newTicket asked clock
 
-  told : (openRefusal desk asked bytes (length room) ≡ none) × (address ≡ 161 + givenPlace desk) × (n ≡ length (requestAt (givenPlace desk) asked bytes))
+  told : (openRefusal desk asked bytes clock (length room) ≡ none)
+      × (address ≡ 161 + givenPlace desk clock)
+      × (n ≡ length (requestAt (givenPlace desk clock) asked bytes))
   told = opened-fit desk asked bytes clock room o room′ opens address n opened
 
   allowed : askRefusal asked bytes ≡ none
-  allowed = fit-to-open desk asked bytes (length room) (told .0) .0
+  allowed = fit-to-open desk asked bytes clock (length room) (told .0) .0
 
   -- the ticket stands on the address that was given
   pub ticket-stands : ticketOn (o .desk) address ≡ ticket
@@ -125,8 +127,8 @@ module _ (desk : Desk) (sound : SoundDesk desk) (asked : Request) (bytes : List 
   -- on the line stands the telegram of the request
   request-is : request ≡ telegramFor (asked .unit) address (asked .sort) (asked .register) bytes
   request-is =
-      let there : room′ ≡ over (requestAt (givenPlace desk) asked bytes) room = opens .2 ∙ rw (told .0) in
-      rw (there, told .2, told .1) (take-over (requestAt (givenPlace desk) asked bytes) room (fit-to-open desk asked bytes (length room) (told .0) .2))
+      let there : room′ ≡ over (requestAt (givenPlace desk clock) asked bytes) room = opens .2 ∙ rw (told .0) in
+      rw (there, told .2, told .1) (take-over (requestAt (givenPlace desk clock) asked bytes) room (fit-to-open desk asked bytes clock (length room) (told .0) .2))
 
   request-data : dataIn request ≡ bytes
   request-data = rw request-is (rw (messageOf-framed (messageFor (asked .unit) address (asked .sort) (asked .register) bytes))
@@ -213,16 +215,16 @@ module _ (desk : Desk) (sound : SoundDesk desk) (asked : Request) (bytes : List 
 
       -- it fits the ticket that was opened
       fits : fitRefusal ticket answer ≡ none
-      unfolding fitRows IsNoTicket IsOtherModule IsOtherKind IsOtherRegister RegisterFits
+      unfolding fitRows IsWithdrawn IsNoTicket IsOtherModule IsOtherKind IsOtherRegister RegisterFits
       fits =
           done-exactly (fitRows ticket answer) (fitRefusal ticket answer) (fit-ranked ticket answer) .1
-          ((λ shut. shut refl), ((λ other. other here), ((λ unfit. unfit (answer-fits bench fields bytes)), ((λ unfit. unfit (inl refl)), tt))))
+          ((λ gone. gone .0 refl), ((λ shut. shut refl), ((λ other. other here), ((λ unfit. unfit (answer-fits bench fields bytes)), ((λ unfit. unfit (inl refl)), tt)))))
 
       -- a request opened at the desk, taken by a bench at that module's address with room, gives a reply that the desk books on that very
       -- ticket, while the ticket stands, whatever else was opened and closed since
       pub booked-there : ticketOn desk₂ address ≡ ticket
           → (b .answer ≡ Booked (asked .job) address (deed .sort) (deed .size))
-          × ClosedAlone desk₂ address (b .desk)
+          × ClosedAlone desk₂ address noTicket (b .desk)
           × (room₂′ ≡ over (bytesOf (deed .size) (deed .value)) room₂)
       booked-there on =
           let none-of : replyRefusal desk₂ reply (length room₂) ≡ none = judged ∙ rw (on, fits) in
@@ -235,25 +237,25 @@ module _ (desk : Desk) (sound : SoundDesk desk) (asked : Request) (bytes : List 
       -- offered to a desk whose ticket on that address is another module's, it is 18, and nothing changes
       pub crossed-refused : OpenOn desk₂ address → ticketOn desk₂ address .asked .unit ≢ asked .unit
           → (b .answer ≡ Refused (Misfit OtherModule)) × (b .desk ≡ desk₂) × (room₂′ ≡ room₂)
-      unfolding fitRows IsNoTicket IsOtherModule
+      unfolding fitRows IsWithdrawn IsNoTicket IsOtherModule
       crossed-refused live other =
           let there : Ticket = ticketOn desk₂ address in
           let misfit : fitRefusal there answer ≡ some OtherModule =
           refused-exactly (fitRows there answer) (fitRefusal there answer) (fit-ranked there answer) OtherModule .1
-          (inr ((λ shut. shut live), inl ((λ same. other (sym same ∙ here)), refl))) in
+          (inr ((λ gone. gone .0 live), inr ((λ shut. shut live), inl ((λ same. other (sym same ∙ here)), refl)))) in
           let eighteen : replyRefusal desk₂ reply (length room₂) ≡ some (Misfit OtherModule) = judged ∙ rw misfit in
           (replies .0 ∙ rw eighteen, replies .1 ∙ rw eighteen, replies .2 ∙ rw eighteen)
 
       -- for a read with the right the data are the register's bytes
       pub read-booked : ticketOn desk₂ address ≡ ticket → asked .sort ≡ 4 → Held bench (asked .register) → HasRight (named bench (asked .register)) 1
           → (b .answer ≡ Booked (asked .job) address 8 (sizeOf (named bench (asked .register) .kind)))
-          × ClosedAlone desk₂ address (b .desk)
+          × ClosedAlone desk₂ address noTicket (b .desk)
           × (room₂′ ≡ over (bytesOf (sizeOf (named bench (asked .register) .kind)) (named bench (asked .register) .value)) room₂)
       read-booked on is held-there right = rw (datagram-of is held-there right) at (booked-there on)
 
     -- and so at the desk that opened it, at once
     pub end-to-end : (room₂ : List ℕ) → 8 ≤ length room₂ → (b : AfterReply) (room₂′ : List ℕ) → Replies (o .desk) reply room₂ b room₂′
         → (b .answer ≡ Booked (asked .job) address (deed .sort) (deed .size))
-        × ClosedAlone (o .desk) address (b .desk)
+        × ClosedAlone (o .desk) address noTicket (b .desk)
         × (room₂′ ≡ over (bytesOf (deed .size) (deed .value)) room₂)
     end-to-end room₂ enough b room₂′ replies = booked-there (o .desk) room₂ enough b room₂′ replies ticket-stands

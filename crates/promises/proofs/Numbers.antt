@@ -1,4 +1,4 @@
--- Each number where the paper gives it, by one computed statement over the table. The desk's, 10 to 22, have laws of their own.
+-- Each number where the paper gives it, by one computed statement over the table. The desk's others, 10 to 22, have laws of their own.
 -- Assumes nothing.
 use mathlib.Core.Path.{_≡_, refl}
 use mathlib.Core.Bool.{true}
@@ -16,6 +16,11 @@ use Rattle.bench.specs.Build.{makeRefusal, addRefusal, setRefusal}
 use Rattle.bench.specs.Register.{placeOf}
 use Rattle.bench.specs.Take.{deedOf, replyFor, replyOf, requestRefusal, takeRefusal}
 use Rattle.receiver.specs.Receiver.{next, closing, told, stepFrom, stepRefusal, stepOf}
+use Rattle.request.specs.Request.{askRefusal}
+use Rattle.ticket.specs.Due.{age}
+use Rattle.ticket.specs.Fit.{fitRefusal}
+use Rattle.desk.specs.Open.{distanceOf, givenPlace, openRefusal}
+use Rattle.desk.specs.Reply.{bookRefusal, replyRefusal}
 use Rattle.promises.specs.Numbers.{allGiven, refusals}
 
 pub every-number : allGiven refusals ≡ true
@@ -23,5 +28,5 @@ unfolding allGiven firstPlace passedFrom substituted framed between restored mes
     hasStrayEnd hasBadSubstitution messageRefusal readRefusal fieldsOf dataOf readFrame sealed writeRefusal sizeOf isSigned isKind
     greatest fits natural bytesOf valueAt elementOf readValue values.readRefusal values.writeRefusal table isFor lineFor catalogue.named findRefusal findEntry
     readDeed writeDeed heldDeed makeRefusal addRefusal setRefusal placeOf deedOf replyFor replyOf requestRefusal takeRefusal
-    next closing told stepFrom stepRefusal stepOf
+    next closing told stepFrom stepRefusal stepOf askRefusal age fitRefusal distanceOf givenPlace openRefusal bookRefusal replyRefusal
 every-number = refl

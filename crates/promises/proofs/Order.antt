@@ -77,7 +77,7 @@ pub call-settled : (lab : Lab) (call : Call) → Settled (Allows lab call)
 unfolding Allows
 call-settled lab (opens asked bytes clock room) = settles _ _ _ (opens-settled (lab .desk) asked bytes clock room)
 call-settled lab (replies frame room) = settles _ _ _ (replies-settled (lab .desk) frame room)
-call-settled lab (cancels job address) = settles _ _ _ (no-buffer _ (cancels-settled (lab .desk) job address))
+call-settled lab (cancels job address clock) = settles _ _ _ (no-buffer _ (cancels-settled (lab .desk) job address clock))
 call-settled lab (expires clock) = settles _ _ _ (no-buffer _ (expires-settled (lab .desk) clock))
 call-settled lab (makes address) = settles _ _ _ (no-buffer _ (makes-settled address))
 call-settled lab (adds bench number kind rights) = settles _ _ _ (no-buffer _ (adds-settled (benchAt lab bench) number kind rights))
@@ -120,9 +120,9 @@ call-keeps lab (replies frame room) o p n e =
     let f = book-refused (p .0 .answer) n (sym (ap told (p .2)) ∙ e) in
     let kept = reply-refusal-keeps (lab .desk) frame room (p .0) (o .room) (p .1) (f .0) (f .1) in
     (p .3 ∙ rw (kept .0), kept .1)
-call-keeps lab (cancels job address) o p n e =
+call-keeps lab (cancels job address clock) o p n e =
     let f = close-refused (p .0 .answer) n (sym (ap told (p .2)) ∙ e) in
-    (p .3 ∙ rw (cancel-refusal-keeps (lab .desk) job address (p .0) (f .0) (p .1 .0) (f .1)), p .1 .1)
+    (p .3 ∙ rw (cancel-refusal-keeps (lab .desk) job address clock (p .0) (f .0) (p .1 .0) (f .1)), p .1 .1)
 call-keeps lab (expires clock) o p n e =
     let f = close-refused (p .0 .answer) n (sym (ap told (p .2)) ∙ e) in
     (p .3 ∙ rw (expire-refusal-keeps (lab .desk) clock (p .0) (f .0) (p .1 .0) (f .1)), p .1 .1)
@@ -186,10 +186,11 @@ module _ (lab : Lab) where
   unfolding Allows
   replies-allowed frame room r room′ p = (r, p, refl, refl)
 
-  pub cancels-allowed : (job address : ℕ) (r : AfterClose) → Cancels (lab .desk) job address r
-      → Allows lab (cancels job address) (record { answer = answers.closing (r .answer); lab = record { desk = r .desk; benches = lab .benches }; room = [] })
+  pub cancels-allowed : (job address clock : ℕ) (r : AfterClose) → Cancels (lab .desk) job address clock r
+      → Allows lab (cancels job address clock)
+      (record { answer = answers.closing (r .answer); lab = record { desk = r .desk; benches = lab .benches }; room = [] })
   unfolding Allows
-  cancels-allowed job address r p = (r, (p, refl), refl, refl)
+  cancels-allowed job address clock r p = (r, (p, refl), refl, refl)
 
   pub expires-allowed : (clock : ℕ) (r : AfterClose) → Expires (lab .desk) clock r
       → Allows lab (expires clock) (record { answer = answers.closing (r .answer); lab = record { desk = r .desk; benches = lab .benches }; room = [] })

@@ -1,10 +1,10 @@
--- "Numbers for what can't be done": the numbers but the desk's, each by inputs that its row alone refuses, and the next that is not
--- refused, with what the definitions tell there.
+-- "Numbers for what can't be done": the numbers, of the desk's 15, 17 and 61, each by inputs that its row alone refuses, and the next that is
+-- not refused, with what the definitions tell there.
 -- Assumes nothing.
 use mathlib.Core.Bool.{Bool, true, _&&_}
 use mathlib.Core.List.{List, [], _∷_}
 use mathlib.Core.Option.{Option}
-use Prim.Native.Nat.{ℕ}
+use Prim.Native.Nat.{ℕ, _+_}
 use lib.Dec.{eqb}
 use lib.ListN.{replicate}
 use Rattle.frame.specs.Frame.{framed}
@@ -21,7 +21,14 @@ use Rattle.bench.specs.Register.{noRegister}
 use Rattle.bench.specs.Take.{takeRefusal, takeAnswer, takeTold}
 use Rattle.bench.specs.declared.Bench.{Bench}
 use Rattle.receiver.specs.Receiver.{outsideAt, stepOf, stepTold}
-use Rattle.promises.specs.Slips.{orZero, bench}
+use Rattle.ticket.specs.Ticket.{withdrawnAt}
+use Rattle.desk.specs.Close.{withdrawnOn}
+use Rattle.desk.specs.Desk.{freshDesk, ticketOn}
+use Rattle.desk.specs.Open.{openRefusal, openAnswer, openTold, givenPlace}
+use Rattle.desk.specs.Reply.{replyRefusal, bookAnswer, bookTold}
+use Rattle.desk.specs.declared.Desk.{Desk}
+use Rattle.telegram.specs.Read.{fieldsIn}
+use Rattle.promises.specs.Slips.{orZero, bench, request, askedDesk, usedDesk}
 
 pub record Given : Type 0 where
   pub told : ℕ
@@ -69,7 +76,21 @@ fullBench = record { address = 15; count = 32; registers = replicate 32 noRegist
 abbrev pub stepping : ℕ → List ℕ → Option ℕ
 stepping place chunk = stepTold (stepOf (outsideAt place) chunk .answer)
 
--- ---- the table: the reader and the writer, the values, the catalogue, the bench at 15 with register 48, a U8, and the receiver
+-- a desk on which every address rests from a clock on
+abbrev pub restingDesk : ℕ → Desk
+restingDesk clock = record { turn = 0; tickets = replicate 95 (withdrawnAt clock) }
+
+abbrev pub opening : Desk → ℕ → Option ℕ
+opening desk clock = openTold (openAnswer (openRefusal desk request [] clock 494) (161 + givenPlace desk clock) 8)
+
+-- the reply to that request
+abbrev pub reply : List ℕ
+reply = telegramFor 161 15 8 102 (0x34 ∷ 0x12 ∷ [])
+
+abbrev pub replying : Desk → Option ℕ
+replying desk = bookTold (bookAnswer (replyRefusal desk reply 240) (ticketOn desk 161) (fieldsIn reply))
+
+-- ---- the table: the reader and the writer, the values, the catalogue, the bench at 15 with register 48, a U8, the receiver, and the desk
 
 abbrev pub refusals : List Given
 refusals =
@@ -133,4 +154,14 @@ refusals =
     ∷ gives (stepping 18446744073709551614 (13 ∷ 10 ∷ [])) 60
     ∷ gives (stepping 18446744073709551614 (13 ∷ [])) 0
     ∷ gives (stepping 18446744073709551615 []) 0
+    ∷ gives (opening (restingDesk 40) 40) 15
+    ∷ gives (opening (restingDesk 40) 1039) 15
+    ∷ gives (opening (restingDesk 40) 1040) 0
+    ∷ gives (opening (restingDesk 40) 39) 0
+    ∷ gives (opening (restingDesk 4294966796) 499) 15
+    ∷ gives (opening (restingDesk 4294966796) 500) 0
+    ∷ gives (replying askedDesk) 0
+    ∷ gives (replying freshDesk) 17
+    ∷ gives (replying usedDesk) 17
+    ∷ gives (replying (withdrawnOn askedDesk 161 40)) 61
     ∷ []

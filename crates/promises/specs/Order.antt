@@ -35,7 +35,7 @@ pub record Lab : Type 0 where
 pub data Call : Type 0 where
   opens : (asked : Request) (bytes : List ℕ) (clock : ℕ) (room : List ℕ) → Call
   replies : (frame room : List ℕ) → Call
-  cancels : (job address : ℕ) → Call
+  cancels : (job address clock : ℕ) → Call
   expires : (clock : ℕ) → Call
   makes : (address : ℕ) → Call
   adds : (bench number kind rights : ℕ) → Call
@@ -46,7 +46,7 @@ pub data Call : Type 0 where
 abbrev pub lentTo : Call → List ℕ
 lentTo (opens asked bytes clock room) = room
 lentTo (replies frame room) = room
-lentTo (cancels job address) = []
+lentTo (cancels job address clock) = []
 lentTo (expires clock) = []
 lentTo (makes address) = []
 lentTo (adds bench number kind rights) = []
@@ -105,8 +105,8 @@ Allows lab (opens asked bytes clock room) =
     Comes (Opens (lab .desk) asked bytes clock room) (λ (r : AfterOpen). opening (r .answer)) (λ r. withDesk lab (r .desk))
 Allows lab (replies frame room) =
     Comes (Replies (lab .desk) frame room) (λ (r : AfterReply). booking (r .answer)) (λ r. withDesk lab (r .desk))
-Allows lab (cancels job address) =
-    Comes (noBuffer (Cancels (lab .desk) job address)) (λ (r : AfterClose). closing (r .answer)) (λ r. withDesk lab (r .desk))
+Allows lab (cancels job address clock) =
+    Comes (noBuffer (Cancels (lab .desk) job address clock)) (λ (r : AfterClose). closing (r .answer)) (λ r. withDesk lab (r .desk))
 Allows lab (expires clock) =
     Comes (noBuffer (Expires (lab .desk) clock)) (λ (r : AfterClose). closing (r .answer)) (λ r. withDesk lab (r .desk))
 Allows lab (makes address) =

@@ -15,10 +15,11 @@ use Rattle.frame.specs.Frame.{messageOf}
 use Rattle.telegram.specs.Write.{unsealed, telegramFor}
 use Rattle.telegram.specs.declared.Fields.{Fields}
 use Rattle.ticket.specs.Fit.{fitRefusal, fitAnswer, fitTold}
-use Rattle.ticket.specs.Ticket.{isFree, newTicket}
-use Rattle.desk.specs.Close.{withdrawnOn}
+use Rattle.ticket.specs.Rest.{isFree}
+use Rattle.ticket.specs.Ticket.{newTicket}
 use Rattle.desk.specs.Desk.{freshDesk, ticketAt}
 use Rattle.desk.specs.Open.{openAnswer, openRefusal, openTold, givenPlace, withTicket}
+use Rattle.desk.specs.Reply.{answeredOn}
 use Rattle.desk.specs.declared.Desk.{Desk}
 use Rattle.bench.specs.Build.{withRegister}
 use Rattle.bench.specs.Register.{emptyBench, registerAt}
@@ -72,9 +73,13 @@ request = record { job = 7; unit = 15; sort = 4; register = 102; wait = 1000 }
 abbrev pub crossed : Fields
 crossed = record { destination = 161; source = 10; sort = 8; register = 102; size = 2 }
 
--- a desk that gave 161 and had it back
+-- a desk that gave 161 to it
+abbrev pub askedDesk : Desk
+askedDesk = withTicket freshDesk 0 (newTicket request 0)
+
+-- and had it back
 abbrev pub usedDesk : Desk
-usedDesk = withdrawnOn (withTicket freshDesk 0 (newTicket request 0)) 161
+usedDesk = answeredOn askedDesk 161
 
 -- a bench at 15 with register 48, a U8 with the right to write, and T2's telegram, which writes 3 there
 abbrev pub bench : Bench
@@ -138,15 +143,15 @@ slips =
     }
     -- "Giving out the lowest free address instead of the turn's, so one address comes back within milliseconds."
     ∷ record {
-      defined = (161 + givenPlace usedDesk) ∷ [];
+      defined = (161 + givenPlace usedDesk 0) ∷ [];
       expected = 162 ∷ [];
-      slipped = (161 + firstPlace (λ place. isFree (ticketAt usedDesk place)) 95) ∷ [];
+      slipped = (161 + firstPlace (λ place. isFree 0 (ticketAt usedDesk place)) 95) ∷ [];
     }
     -- "a reader that refuses all"
     ∷ record { defined = orZero (readTold (readFrame (telegramFor 15 162 4 102 []) 240)) ∷ []; expected = 0 ∷ []; slipped = 4 ∷ [] }
     -- "a desk with no address to give"
     ∷ record {
-      defined = orZero (openTold (openAnswer (openRefusal freshDesk request [] 494) (161 + givenPlace freshDesk) 8)) ∷ [];
+      defined = orZero (openTold (openAnswer (openRefusal freshDesk request [] 0 494) (161 + givenPlace freshDesk 0) 8)) ∷ [];
       expected = 0 ∷ [];
       slipped = 15 ∷ [];
     }

@@ -1,34 +1,66 @@
 -- What is promised of a ticket that waits, each law under the sentence that it keeps.
 -- Assumes nothing.
 use mathlib.Core.Path.{_≡_, refl, sym, ap, _∙_}
-use mathlib.Core.Bool.{Bool, true, false, cond, not, true≢false}
+use mathlib.Core.Bool.{Bool, true, false, cond, not, _&&_, true≢false}
 use mathlib.Core.List.{[], _∷_}
 use mathlib.Core.Logic.{_≢_, _⊎_, inl, inr, ⊎-elim, _↔_}
 use mathlib.Core.Option.{Option, some, none}
 use Prim.Native.Nat.{ℕ, zero, suc, _+_, _-_, _%_, _^_, _≤_, _<_}
+use native.Mathlib.Decide.{decLe}
 use native.Mathlib.Omega.{arith}
 use borrow.Author.Tests.{eqb-true, not-true, not-false, ne-eqb}
 use lib.Dec.{eqb}
 use Rattle.rows.proofs.Settled.{settled}
 use Rattle.rows.specs.Settled.{Settled}
-use Rattle.rows.proofs.Laws.{Decides, decides-le, decides-eq, decides-not, decides-or, decides-and, decides-set, decides-as, told-true, ranked, _otherwise_, first-false, numbered}
+use Rattle.rows.proofs.Laws.{Decides, decides-le, decides-lt, decides-eq, decides-not, decides-or, decides-and, decides-set, decides-as}
+use Rattle.rows.proofs.Laws.{clash, told-true, ranked, _otherwise_, first-false, numbered}
 use Rattle.rows.specs.Rows.{Ranked, Numbered, row, passedUp, raised}
 use Rattle.telegram.specs.declared.Fields.{Fields}
 use Rattle.ticket.specs.Due.{age, IsDue, isDue, TellsDue}
-use Rattle.ticket.specs.Fit.{KindFits, RegisterFits, IsNoTicket, IsOtherModule, IsOtherKind, IsOtherRegister, fitRows, kindFits, registerFits}
+use Rattle.ticket.specs.Fit.{KindFits, RegisterFits, IsWithdrawn, IsNoTicket, IsOtherModule, IsOtherKind, IsOtherRegister, fitRows, kindFits, registerFits}
 use Rattle.ticket.specs.Fit.{fitTests, fitRefusal, fitAnswer, fitTold, faultNumber, Judges, Numbers, typesThat}
-use Rattle.ticket.specs.Ticket.{Open, Free, isFree, TellsFree}
+use Rattle.ticket.specs.Rest.{Rests, isResting, Free, isFree, TellsFree}
+use Rattle.ticket.specs.Ticket.{Open, withdrawnAt}
 use Rattle.ticket.specs.declared.Ticket.{Ticket}
 use Rattle.ticket.specs.declared.Fault.{Fault}
-use Rattle.ticket.specs.declared.Fault.the-variants.{NoTicket, OtherModule, OtherKind, OtherRegister}
+use Rattle.ticket.specs.declared.Fault.the-variants.{Withdrawn, NoTicket, OtherModule, OtherKind, OtherRegister}
 use Rattle.ticket.specs.declared.Judged.{Judged}
 use Rattle.ticket.specs.declared.Judged.the-variants.{Fits, Misfit}
 
--- an address is free exactly where no ticket is open
-pub decides-free : (ticket : Ticket) → Decides (isFree ticket) (Free ticket)
-decides-free ticket = record { so = not-true (ticket .live); not-so = λ e free. true≢false (sym (not-false (ticket .live) e) ∙ free) }
+-- ---- 02, #102: "an address closed by cancel or expiry rests: it is not given out exactly while the clock minus its closing, modulo
+-- 4294967296, is under 1000 ms"
 
--- ---- rows 17 to 20: "Each is given exactly when its condition holds and no earlier one does."
+pub decides-resting : (clock : ℕ) (ticket : Ticket) → Decides (isResting clock ticket) (Rests clock ticket)
+decides-resting clock ticket = decides-and (decides-set (ticket .withdrawn)) (decides-lt (age clock (ticket .closed)) 1000)
+
+pub decides-off : (b : Bool) → Decides (not b) (b ≡ false)
+decides-off b = record { so = not-true b; not-so = λ e off. true≢false (sym (not-false b e) ∙ off) }
+
+-- an address is free exactly where no ticket is open and it does not rest
+pub decides-free : (clock : ℕ) (ticket : Ticket) → Decides (isFree clock ticket) (Free clock ticket)
+decides-free clock ticket = decides-and (decides-off (ticket .live)) (decides-not (decides-resting clock ticket))
+
+-- one that is not free is open or rests
+pub open-or-rests : (clock : ℕ) (ticket : Ticket) → isFree clock ticket ≡ false → Open ticket ⊎ Rests clock ticket
+open-or-rests clock ticket = go (ticket .live) (isResting clock ticket) (decides-resting clock ticket)
+  where
+    go : (live resting : Bool) → Decides resting (Rests clock ticket) → (not live && not resting) ≡ false → (live ≡ true) ⊎ Rests clock ticket
+    go true resting d e = inl refl
+    go false true d e = inr (d .so refl)
+    go false false d e = absurd (true≢false e)
+
+pub taken-not-free : (clock : ℕ) (ticket : Ticket) → Open ticket ⊎ Rests clock ticket → Free clock ticket → ⊥
+taken-not-free clock ticket taken free = ⊎-elim (λ live. true≢false (sym live ∙ free .0)) (free .1) taken
+
+-- one that is free after a cancel or an expiry has rested
+pub rested : (clock closed : ℕ) → Free clock (withdrawnAt closed) → 1000 ≤ age clock closed
+rested clock closed free = go (decLe 1000 (age clock closed))
+  where
+    go : Dec (1000 ≤ age clock closed) → 1000 ≤ age clock closed
+    go (yes h) = h
+    go (no h) = absurd (free .1 (refl, omega arith))
+
+-- ---- rows 61 and 17 to 20: "Each is given exactly when its condition holds and no earlier one does."
 
 to-two : (n : ℕ) → n ≤ 2 → (n ≡ 0) ⊎ ((n ≡ 1) ⊎ (n ≡ 2))
 to-two zero h = inl refl
@@ -58,10 +90,11 @@ unfolding RegisterFits
 decides-register asked answered register = decides-or (decides-eq register asked) (decides-and (decides-le answered 3) (decides-eq register 0))
 
 pub fit-ranked : (ticket : Ticket) (t : Fields) → Ranked (fitRows ticket t) (fitRefusal ticket t)
-unfolding fitRows fitRefusal IsNoTicket IsOtherModule IsOtherKind IsOtherRegister
+unfolding fitRows fitRefusal IsWithdrawn IsNoTicket IsOtherModule IsOtherKind IsOtherRegister
 fit-ranked ticket t =
     ranked (fitTests ticket t) (fitRows ticket t)
-    (decides-not (decides-set (ticket .live)) otherwise λ n₁₇.
+    (decides-and (decides-not (decides-set (ticket .live))) (decides-set (ticket .withdrawn)) otherwise λ n₆₁.
+    decides-not (decides-set (ticket .live)) otherwise λ n₁₇.
     decides-not (decides-eq (t .source) (ticket .asked .unit)) otherwise λ n₁₈.
     decides-not (decides-kind (ticket .asked .sort) (t .sort)) otherwise λ n₁₉.
     decides-not (decides-register (ticket .asked .register) (t .sort) (t .register)) otherwise λ n₂₀. tt)
@@ -72,23 +105,24 @@ tells (some f) = refl
 
 -- and so of the answer, by numbers
 pub fit-exactly : (ticket : Ticket) (t : Fields) (r : Judged) → Judges ticket t r
-    → Numbered (passedUp faultNumber (fitRows ticket t)) (17 ∷ 18 ∷ 19 ∷ 20 ∷ []) (fitTold r)
+    → Numbered (passedUp faultNumber (fitRows ticket t)) (61 ∷ 17 ∷ 18 ∷ 19 ∷ 20 ∷ []) (fitTold r)
 unfolding fitRows
 fit-exactly ticket t r p =
-    numbered faultNumber (fitRows ticket t) (fitRefusal ticket t) (fit-ranked ticket t) (17 ∷ 18 ∷ 19 ∷ 20 ∷ []) refl refl
+    numbered faultNumber (fitRows ticket t) (fitRefusal ticket t) (fit-ranked ticket t) (61 ∷ 17 ∷ 18 ∷ 19 ∷ 20 ∷ []) refl refl
     (fitTold r) (ap fitTold p ∙ tells (fitRefusal ticket t))
 
 -- the rows written out, each with its number
 pub fit-plainly : (ticket : Ticket) (t : Fields) (r : Judged) → Judges ticket t r
     → Numbered
-    (row (ticket .live ≡ true → ⊥) 17
+    (row ((ticket .live ≡ true → ⊥) × (ticket .withdrawn ≡ true)) 61
+    ∷ row (ticket .live ≡ true → ⊥) 17
     ∷ row (t .source ≢ ticket .asked .unit) 18
     ∷ row (((ticket .asked .sort ≡ 4) × (t .sort ≡ 8))
     ⊎ (((ticket .asked .sort ≢ 4) × (t .sort ≡ 3)) ⊎ ((t .sort ≡ 0) ⊎ ((t .sort ≡ 1) ⊎ (t .sort ≡ 2)))) → ⊥) 19
     ∷ row ((t .register ≡ ticket .asked .register) ⊎ ((t .sort ≤ 3) × (t .register ≡ 0)) → ⊥) 20
     ∷ [])
-    (17 ∷ 18 ∷ 19 ∷ 20 ∷ []) (fitTold r)
-unfolding fitRows IsNoTicket IsOtherModule IsOtherKind IsOtherRegister KindFits RegisterFits
+    (61 ∷ 17 ∷ 18 ∷ 19 ∷ 20 ∷ []) (fitTold r)
+unfolding fitRows IsWithdrawn IsNoTicket IsOtherModule IsOtherKind IsOtherRegister KindFits RegisterFits
 fit-plainly ticket t r p = fit-exactly ticket t r p
 
 -- 01: "A read is answered by type 8, 0, 1 or 2, a write of any sort by 3, 0, 1 or 2."
@@ -113,7 +147,8 @@ pub fitting : (ticket : Ticket) (t : Fields) → fitRefusal ticket t ≡ none
     → (Open ticket) × (t .source ≡ ticket .asked .unit) × KindFits (ticket .asked .sort) (t .sort) × RegisterFits (ticket .asked .register) (t .sort) (t .register)
 unfolding fitRefusal
 fitting ticket t e =
-    let on = first-false (not (ticket .live)) NoTicket _ e in
+    let kept = first-false (not (ticket .live) && ticket .withdrawn) Withdrawn _ e in
+    let on = first-false (not (ticket .live)) NoTicket _ (kept .1) in
     let unit = first-false (not (eqb (t .source) (ticket .asked .unit))) OtherModule _ (on .1) in
     let kind = first-false (not (kindFits (ticket .asked .sort) (t .sort))) OtherKind _ (unit .1) in
     let register = first-false (not (registerFits (ticket .asked .register) (t .sort) (t .register))) OtherRegister _ (kind .1) in (
@@ -122,6 +157,24 @@ fitting ticket t e =
       decides-kind (ticket .asked .sort) (t .sort) .so (not-false _ (kind .0)),
       decides-register (ticket .asked .register) (t .sort) (t .register) .so (not-false _ (register .0)),
     )
+
+-- on an open ticket only 18, 19 and 20 are given
+pub open-told : (ticket : Ticket) (t : Fields) → Open ticket → (n : ℕ) → raised faultNumber (fitRefusal ticket t) ≡ some n → (18 ≤ n) × (n ≤ 20)
+unfolding fitRefusal
+open-told ticket t live n e =
+    go (not (eqb (t .source) (ticket .asked .unit))) (not (kindFits (ticket .asked .sort) (t .sort)))
+    (not (registerFits (ticket .asked .register) (t .sort) (t .register))) (rw live at e)
+  where
+    within : (m : ℕ) → (18 ≤ m) × (m ≤ 20) → _≡_ {A = Option ℕ} (some m) (some n) → (18 ≤ n) × (n ≤ 20)
+    within m h p = let same : m ≡ n = cc in rw (← same) h
+
+    go : (module-differs kind-differs register-differs : Bool)
+        → raised faultNumber (cond module-differs (some OtherModule) (cond kind-differs (some OtherKind) (cond register-differs (some OtherRegister) none))) ≡ some n
+        → (18 ≤ n) × (n ≤ 20)
+    go true b d p = within 18 (omega arith, omega arith) p
+    go false true d p = within 19 (omega arith, omega arith) p
+    go false false true p = within 20 (omega arith, omega arith) p
+    go false false false p = clash (cc)
 
 -- what an answer tells of the refusal that it was made from
 pub judged-misfit : (o : Option Fault) (f : Fault) → Misfit f ≡ fitAnswer o → o ≡ some f
@@ -156,17 +209,44 @@ pub decides-due : (clock : ℕ) (ticket : Ticket) → Decides (isDue clock ticke
 decides-due clock ticket = decides-and (decides-set (ticket .live)) (decides-le (ticket .asked .wait) (age clock (ticket .opened)))
 
 -- what wrapping subtraction gives is the age
-pub age-is : (clock opened r : ℕ) → (r + opened) % 2 ^ 32 ≡ clock → r < 2 ^ 32 → opened < 2 ^ 32 → r ≡ age clock opened
+pub age-is : (clock since r : ℕ) → (r + since) % 2 ^ 32 ≡ clock → r < 2 ^ 32 → since < 2 ^ 32 → r ≡ age clock since
 unfolding age
-age-is clock opened r e hr ho = omega arith
+age-is clock since r e hr hs = omega arith
+
+-- ---- 02, #102: both sides of 1000 ms, with the clock going round or not; "A clock gone round can start a rest again and one set back can end
+-- it early; we accept both"
+
+-- the clock that comes so many milliseconds after another
+abbrev later : ℕ → ℕ → ℕ
+later since ms = (since + ms) % 2 ^ 32
+
+age-later : (since ms : ℕ) → since < 2 ^ 32 → ms < 2 ^ 32 → age (later since ms) since ≡ ms
+unfolding age
+age-later since ms hs hm = omega arith
+
+pub rests-under-1000 : (closed ms : ℕ) → closed < 2 ^ 32 → ms < 1000 → Rests ((closed + ms) % 2 ^ 32) (withdrawnAt closed)
+rests-under-1000 closed ms hc h = (refl, omega (arith, age-later closed ms hc (omega arith)))
+
+pub free-from-1000 : (closed ms : ℕ) → closed < 2 ^ 32 → 1000 ≤ ms → ms < 2 ^ 32 → Free ((closed + ms) % 2 ^ 32) (withdrawnAt closed)
+free-from-1000 closed ms hc h hm = (refl, λ rests. omega (arith, rests .1, age-later closed ms hc hm))
+
+-- gone round: 4294967296 ms after it was closed, and up to 999 more, it rests again
+pub rests-again : (closed ms : ℕ) → closed < 2 ^ 32 → ms < 1000 → Rests ((closed + 2 ^ 32 + ms) % 2 ^ 32) (withdrawnAt closed)
+rests-again closed ms hc h =
+    let same : (closed + 2 ^ 32 + ms) % 2 ^ 32 ≡ (closed + ms) % 2 ^ 32 = omega arith in rw same (rests-under-1000 closed ms hc h)
+
+-- set back before the closing, by up to 4294966296 ms, it is free
+pub set-back-free : (closed clock : ℕ) → closed < 2 ^ 32 → clock < closed → closed - clock + 1000 ≤ 2 ^ 32 → Free clock (withdrawnAt closed)
+set-back-free closed clock hc h near = (refl, λ rests. omega (arith, rests .1, age-set-back clock closed hc h))
 
 -- the call `number` gives the number that the laws above tell
 pub number-is : (f : Fault) (r : ℕ) → Numbers f r → r ≡ faultNumber f
 number-is f r p = p
 
 -- what `is_free` and `is_due` tell, said out
-pub tells-free : (ticket : Ticket) (r : Bool) → TellsFree ticket r → (r ≡ true) ↔ (ticket .live ≡ false)
-tells-free ticket r p = (λ e. decides-free ticket .so (sym p ∙ e), λ free. p ∙ told-true (decides-free ticket) free)
+pub tells-free : (ticket : Ticket) (clock : ℕ) (r : Bool) → TellsFree ticket clock r
+    → (r ≡ true) ↔ ((ticket .live ≡ false) × ((ticket .withdrawn ≡ true) × (age clock (ticket .closed) < 1000) → ⊥))
+tells-free ticket clock r p = (λ e. decides-free clock ticket .so (sym p ∙ e), λ free. p ∙ told-true (decides-free clock ticket) free)
 
 pub tells-due : (ticket : Ticket) (clock : ℕ) (r : Bool) → TellsDue ticket clock r
     → (r ≡ true) ↔ ((ticket .live ≡ true) × (ticket .asked .wait ≤ age clock (ticket .opened)))
@@ -177,8 +257,8 @@ tells-due ticket clock r p = (λ e. decides-due clock ticket .so (sym p ∙ e), 
 pub judges-settled : (ticket : Ticket) (t : Fields) → Settled (Judges ticket t)
 judges-settled ticket t = settled _
 
-pub tells-free-settled : (ticket : Ticket) → Settled (TellsFree ticket)
-tells-free-settled ticket = settled _
+pub tells-free-settled : (ticket : Ticket) (clock : ℕ) → Settled (TellsFree ticket clock)
+tells-free-settled ticket clock = settled _
 
 pub tells-due-settled : (ticket : Ticket) (clock : ℕ) → Settled (TellsDue ticket clock)
 tells-due-settled ticket clock = settled _

@@ -1,4 +1,4 @@
--- When a ticket is due.
+-- How long ago a clock was read, and when a ticket is due.
 -- Assumes nothing.
 use mathlib.Core.Path.{_≡_}
 use mathlib.Core.Bool.{Bool, _&&_}
@@ -7,9 +7,9 @@ use lib.Dec.{leb}
 use Rattle.ticket.specs.Ticket.{Open}
 use Rattle.ticket.specs.declared.Ticket.{Ticket}
 
--- "A ticket's age is the clock minus its opening, reduced modulo 4294967296"
+-- "A ticket's age is the clock minus its opening, reduced modulo 4294967296", and so is that of its closing
 unfoldable pub age : ℕ → ℕ → ℕ
-age clock opened = (clock + 2 ^ 32 - opened) % 2 ^ 32
+age clock since = (clock + 2 ^ 32 - since) % 2 ^ 32
 
 -- "and it is due when the age is at least its waiting time"
 abbrev pub IsDue : ℕ → Ticket → Type 0

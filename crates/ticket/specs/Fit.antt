@@ -1,4 +1,4 @@
--- Which reply fits a ticket: rows 17 to 20, of what a telegram says and what stands on its destination.
+-- Which reply fits a ticket: rows 61 and 17 to 20, of what a telegram says and what stands on its destination.
 -- Assumes nothing.
 use mathlib.Core.Path.{_≡_}
 use mathlib.Core.Logic.{_≢_, _⊎_}
@@ -12,7 +12,7 @@ use Rattle.telegram.specs.declared.Fields.{Fields}
 use Rattle.ticket.specs.Ticket.{Open}
 use Rattle.ticket.specs.declared.Ticket.{Ticket}
 use Rattle.ticket.specs.declared.Fault.{Fault}
-use Rattle.ticket.specs.declared.Fault.the-variants.{NoTicket, OtherModule, OtherKind, OtherRegister}
+use Rattle.ticket.specs.declared.Fault.the-variants.{Withdrawn, NoTicket, OtherModule, OtherKind, OtherRegister}
 use Rattle.ticket.specs.declared.Judged.{Judged}
 use Rattle.ticket.specs.declared.Judged.the-variants.{Fits, Misfit}
 
@@ -26,6 +26,10 @@ unfoldable pub RegisterFits : ℕ → ℕ → ℕ → Type 0
 RegisterFits asked answered register = (register ≡ asked) ⊎ ((answered ≤ 3) × (register ≡ 0))
 
 -- ---- the rows
+
+-- 61: "in place of 17, when the reply's destination has no ticket and its last ticket was cancelled or expired"
+unfoldable pub IsWithdrawn : Ticket → Type 0
+IsWithdrawn ticket = (Open ticket → ⊥) × (ticket .withdrawn ≡ true)
 
 -- 17: "no ticket open on its destination"
 unfoldable pub IsNoTicket : Ticket → Type 0
@@ -45,7 +49,8 @@ IsOtherRegister ticket t = RegisterFits (ticket .asked .register) (t .sort) (t .
 
 unfoldable pub fitRows : Ticket → Fields → List (Row Fault)
 fitRows ticket t =
-    row (IsNoTicket ticket) NoTicket
+    row (IsWithdrawn ticket) Withdrawn
+    ∷ row (IsNoTicket ticket) NoTicket
     ∷ row (IsOtherModule ticket t) OtherModule
     ∷ row (IsOtherKind ticket t) OtherKind
     ∷ row (IsOtherRegister ticket t) OtherRegister
@@ -65,7 +70,8 @@ registerFits asked answered register = eqb register asked || (leb answered 3 && 
 
 abbrev pub fitTests : Ticket → Fields → List (Test Fault)
 fitTests ticket t =
-    test (not (ticket .live)) NoTicket
+    test (not (ticket .live) && ticket .withdrawn) Withdrawn
+    ∷ test (not (ticket .live)) NoTicket
     ∷ test (not (eqb (t .source) (ticket .asked .unit))) OtherModule
     ∷ test (not (kindFits (ticket .asked .sort) (t .sort))) OtherKind
     ∷ test (not (registerFits (ticket .asked .register) (t .sort) (t .register))) OtherRegister
@@ -76,6 +82,7 @@ fitRefusal ticket t = firstOf (fitTests ticket t)
 
 -- the paper's number of each refusal, and the number that an answer tells
 abbrev pub faultNumber : Fault → ℕ
+faultNumber Withdrawn = 61
 faultNumber NoTicket = 17
 faultNumber OtherModule = 18
 faultNumber OtherKind = 19

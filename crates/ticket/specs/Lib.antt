@@ -1,3 +1,4 @@
 pub mod Ticket
 pub mod Fit
 pub mod Due
+pub mod Rest

@@ -1,5 +1,6 @@
-// What stands on a host address: a ticket that waits for its reply, or nothing. Which reply fits it,
-// rows 17 to 20, and when it is due. specs/ says what each call answers.
+// What stands on a host address: a ticket that waits for its reply, or what is kept of one that was
+// cancelled or expired, or nothing. Which reply fits it, rows 61 and 17 to 20, when it is due, and
+// when the address may be given out. specs/ says what each call answers.
 use request::Request;
 use telegram::ACK;
 use telegram::BUSY;
@@ -7,15 +8,19 @@ use telegram::DATAGRAM;
 use telegram::READ;
 ghost use Rattle.ticket.specs.Due.{TellsDue};
 ghost use Rattle.ticket.specs.Fit.{Judges, Numbers, kindFits, registerFits, wantedFor};
-ghost use Rattle.ticket.specs.Ticket.{TellsFree};
+ghost use Rattle.ticket.specs.Rest.{TellsFree, isResting};
 ghost use mathlib.Core.Path.{_≡_};
 
-// A ticket is live while it is open; where none stands, all is zero.
+// A ticket is live while it is open. Of one that was cancelled or expired is kept that it was, and
+// when, until the address is given out again; all else is zero.
 pub struct Ticket {
     pub live: bool,
     pub asked: Request,
     // the clock when it was opened
     pub opened: u32,
+    pub withdrawn: bool,
+    // the clock when it was cancelled or expired
+    pub closed: u32,
 }
 
 pub const NO_TICKET: Ticket = Ticket {
@@ -28,10 +33,17 @@ pub const NO_TICKET: Ticket = Ticket {
         wait: 0,
     },
     opened: 0,
+    withdrawn: false,
+    closed: 0,
 };
+
+// For how many milliseconds an address rests.
+const REST: u32 = 1000;
 
 // Why a reply does not fit.
 pub enum Fault {
+    // the last ticket there was cancelled or expired
+    Withdrawn,
     NoTicket,
     OtherModule,
     OtherKind,
@@ -48,6 +60,7 @@ pub fn number(fault: Fault) -> u8
     ensures { λ r. ⌜ Numbers fault r ⌝ }
 {
     match fault {
+        Fault::Withdrawn => 61,
         Fault::NoTicket => 17,
         Fault::OtherModule => 18,
         Fault::OtherKind => 19,
@@ -55,14 +68,22 @@ pub fn number(fault: Fault) -> u8
     }
 }
 
-// Whether the address may be given out.
-pub fn is_free(ticket: Ticket) -> bool
-    ensures { λ r. ⌜ TellsFree ticket r ⌝ }
+// Whether the address may be given out: no ticket is open there, and it does not rest.
+pub fn is_free(ticket: Ticket, clock: u32) -> bool
+    ensures { λ r. ⌜ TellsFree ticket clock r ⌝ }
 {
-    !ticket.live
+    !ticket.live && !is_resting(ticket, clock)
 }
 
-// Rows 17 to 20, of what a telegram says and the ticket on its destination.
+// Whether the address rests after a cancel or an expiry.
+fn is_resting(ticket: Ticket, clock: u32) -> bool
+    ensures { λ r. ⌜ r ≡ isResting clock ticket ⌝ }
+{
+    let age = std::num::wrapping_sub_u32(clock, ticket.closed);
+    ticket.withdrawn && age < REST
+}
+
+// Rows 61 and 17 to 20, of what a telegram says and what stands on its destination.
 pub fn judge(ticket: Ticket, t: telegram::Fields) -> Judged
     ensures { λ r. ⌜ Judges ticket t r ⌝ }
 {
@@ -72,6 +93,9 @@ pub fn judge(ticket: Ticket, t: telegram::Fields) -> Judged
     let kind = kind_fits(asked.sort, t.sort);
     let register = register_fits(asked.register, t.sort, t.register);
     if !ticket.live {
+        if ticket.withdrawn {
+            return Judged::Misfit(Fault::Withdrawn);
+        }
         return Judged::Misfit(Fault::NoTicket);
     }
     if source != unit {

@@ -4,7 +4,7 @@ use Prim.Native.Nat.{ℕ, _-_, _≤_, _<_}
 use native.Mathlib.Omega.{arith}
 use borrow.Author.Needs.{needs}
 use borrow.Author.Count.{below-more}
-use Rattle.ticket.specs.Ticket.{isFree}
+use Rattle.ticket.specs.Rest.{isFree}
 use Rattle.desk.proofs.free_distance.Statement.{statement}
 use Rattle.desk.specs.Open.{placeFrom, distanceOf}
 use Rattle.desk.specs.Desk.{ticketAt}
@@ -12,10 +12,10 @@ use Rattle.desk.proofs.Calls.{end-none, free-found}
 use Rattle.desk.proofs.free_distance.Tie as tie
 
 abbrev Inv-loop : tie.InvT-loop
-Inv-loop desk turn k₀ k = (k ≤ 95) × ((i : ℕ) → i < k → isFree (ticketAt desk (placeFrom (desk .turn) i)) ≡ false) × (turn ≡ desk .turn)
+Inv-loop clock desk turn k₀ k = (k ≤ 95) × ((i : ℕ) → i < k → isFree clock (ticketAt desk (placeFrom (desk .turn) i)) ≡ false) × (turn ≡ desk .turn)
 
 abbrev μ-loop : tie.MeasureT-loop
-μ-loop desk turn k₀ k = 95 - k
+μ-loop clock desk turn k₀ k = 95 - k
 
 cast-turn : tie.Need-cast-turn Inv-loop μ-loop
 cast-turn c = search needs
@@ -41,7 +41,7 @@ is-free-requires c κs = search needs
 returns : tie.Need-returns Inv-loop μ-loop
 returns c =
     let loop = c .before .before .before .before in
-    free-found (loop .before .args .t1) _ (c .before .before .before .loop-test .taken) (loop .loop .inv .1) (sym (c .before .is-free .ensures) ∙ c .if1 .taken)
+    free-found (loop .before .args .t1) (loop .before .args .clock) _ (c .before .before .before .loop-test .taken) (loop .loop .inv .1) (sym (c .before .is-free .ensures) ∙ c .if1 .taken)
 
 add-k : tie.Need-add-k Inv-loop μ-loop
 add-k c = search needs
@@ -56,7 +56,7 @@ returns-2 : tie.Need-returns-2 Inv-loop μ-loop
 unfolding distanceOf
 returns-2 c =
     let desk = c .before .before .args .t1 in
-    end-none (λ i. isFree (ticketAt desk (placeFrom (desk .turn) i))) _ (c .before .loop .inv .0) (c .loop-test .left) (c .before .loop .inv .1)
+    end-none (λ i. isFree (c .before .before .args .clock) (ticketAt desk (placeFrom (desk .turn) i))) _ (c .before .loop .inv .0) (c .loop-test .left) (c .before .loop .inv .1)
 
 pub free-distance-spec : {M : Type 1} → statement M
 free-distance-spec =

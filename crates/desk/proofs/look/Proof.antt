@@ -9,7 +9,10 @@ returns : tie.Need-returns
 returns c = rw (← c .before .ticket-on .ensures, c .if1 .taken)
 
 returns-2 : tie.Need-returns-2
-returns-2 c = rw (← c .before .ticket-on .ensures, c .if1 .left)
+returns-2 c = rw (← c .before .before .ticket-on .ensures, c .before .if1 .left, c .if2 .taken)
+
+returns-3 : tie.Need-returns-3
+returns-3 c = rw (← c .before .before .ticket-on .ensures, c .before .if1 .left, c .if2 .left)
 
 pub look-spec : {M : Type 1} → statement M
-look-spec = tie.close (tie.spec ticket-on-requires returns returns-2)
+look-spec = tie.close (tie.spec ticket-on-requires returns returns-2 returns-3)

@@ -9,11 +9,14 @@ ticket-on-requires c κs = search needs
 sub-put-at : tie.Need-sub-put-at
 sub-put-at c = search needs
 
+withdrawn-at-requires : tie.Need-withdrawn-at-requires
+withdrawn-at-requires c κs = search needs
+
 put-at-requires : tie.Need-put-at-requires
 put-at-requires c κs = search needs
 
 returns : tie.Need-returns
-returns c = rw (← c .before .ticket-on .ensures) (refl, c .put-at .ensures)
+returns c = rw (← c .before .before .ticket-on .ensures, ← c .before .withdrawn-at .ensures) (refl, c .put-at .ensures)
 
 pub withdraw-spec : {M : Type 1} → statement M
-withdraw-spec = tie.close (tie.spec ticket-on-requires sub-put-at put-at-requires returns)
+withdraw-spec = tie.close (tie.spec ticket-on-requires sub-put-at withdrawn-at-requires put-at-requires returns)

@@ -1,23 +1,23 @@
--- `tickets` ends.
+-- `addresses` ends.
 -- Assumes nothing.
 use Prim.Native.Nat.{_≤_, _-_}
 use lib.ListN.{length}
 use mathlib.Core.Path.{_≡_}
 use borrow.Author.Needs.{needs}
-use Rattle.desk_calls.proofs.tickets.Statement.{statement}
-use Rattle.desk_calls.proofs.tickets.Tie as tie
+use Rattle.desk_calls.proofs.addresses.Statement.{statement}
+use Rattle.desk_calls.proofs.addresses.Tie as tie
 
 abbrev Inv-loop : tie.InvT-loop
-Inv-loop d out₀ from at₀ address₀ t7 out at address = (161 ≤ address) × (address ≤ 255) × (length out ≡ length out₀)
+Inv-loop d out₀ from closed at₀ address₀ t7 out at address = (161 ≤ address) × (address ≤ 255) × (length out ≡ length out₀)
 
 abbrev μ-loop : tie.MeasureT-loop
-μ-loop d out₀ from at₀ address₀ t7 out at address = 255 - address
+μ-loop d out₀ from closed at₀ address₀ t7 out at address = 255 - address
 
 loop-holds : tie.Need-loop-holds Inv-loop μ-loop
 loop-holds c = search needs
 
-ticket-requires : tie.Need-ticket-requires Inv-loop μ-loop
-ticket-requires c κs = search needs
+standing-requires : tie.Need-standing-requires Inv-loop μ-loop
+standing-requires c κs = search needs
 
 add-address : tie.Need-add-address Inv-loop μ-loop
 add-address c = search needs
@@ -28,8 +28,8 @@ loop-less c = search needs
 loop-again : tie.Need-loop-again Inv-loop μ-loop
 loop-again c = search needs
 
-ticket-requires-2 : tie.Need-ticket-requires-2 Inv-loop μ-loop
-ticket-requires-2 c κs = search needs
+standing-requires-2 : tie.Need-standing-requires-2 Inv-loop μ-loop
+standing-requires-2 c κs = search needs
 
 slice-aggregate-text : tie.Need-slice-aggregate-text Inv-loop μ-loop
 slice-aggregate-text c = search needs
@@ -49,18 +49,18 @@ same-length-2 c = search needs
 returns-2 : tie.Need-returns-2 Inv-loop μ-loop
 returns-2 c = search needs
 
-pub tickets-spec : {M : Type 1} → statement M
-tickets-spec =
+pub addresses-spec : {M : Type 1} → statement M
+addresses-spec =
     tie.close
     (tie.spec
     Inv-loop
     μ-loop
     loop-holds
-    ticket-requires
+    standing-requires
     add-address
     loop-less
     loop-again
-    ticket-requires-2
+    standing-requires-2
     slice-aggregate-text
     text-requires
     same-length
