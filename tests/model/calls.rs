@@ -26,7 +26,7 @@ enum Call {
     DeskNew,
     DeskOpen { request: Request, buf: Vec<u8> },
     DeskReply { frame: Vec<u8>, buf: Vec<u8> },
-    DeskCancel { job: u32, address: u8 },
+    DeskCancel { job: u32, address: u8, clock: u32 },
     DeskExpire { clock: u32 },
     DeskDump,
     RxNew { place: u64 },
@@ -155,7 +155,7 @@ fn parse_call(name: &[u8], words: &mut Words) -> Option<Call> {
         b"desk.new" => Call::DeskNew,
         b"desk.open" => Call::DeskOpen { request: parse_request(words)?, buf: words.bytes()? },
         b"desk.reply" => Call::DeskReply { frame: words.bytes()?, buf: words.bytes()? },
-        b"desk.cancel" => parse_cancel(words)?,
+        b"desk.cancel" => Call::DeskCancel { job: words.number()?, address: words.byte()?, clock: words.number()? },
         b"desk.expire" => Call::DeskExpire { clock: words.number()? },
         b"desk.dump" => Call::DeskDump,
         b"rx.new" => Call::RxNew { place: words.long_number()? },
@@ -176,12 +176,6 @@ fn parse_request(words: &mut Words) -> Option<Request> {
     let (job, module, type_no, register) = (words.number()?, words.byte()?, words.byte()?, words.byte()?);
     let (data, wait, _folder, clock) = (words.bytes()?, words.number()?, words.number()?, words.number()?);
     Some(Request { job, module, type_no, register, data, wait, clock })
-}
-
-/// JOB ADDRESS CLOCK of a cancel; the clock must parse and is passed over.
-fn parse_cancel(words: &mut Words) -> Option<Call> {
-    let (job, address, _clock) = (words.number()?, words.byte()?, words.number()?);
-    Some(Call::DeskCancel { job, address })
 }
 
 /// What the calls work on: the desk, the bench once there is one, and the receiver.
@@ -226,8 +220,8 @@ impl Rehearsal {
             Call::DeskNew => plain(Ok(self.new_desk())),
             Call::DeskOpen { request, buf } => lent(buf, |room| self.desk.open(&request, room).map(open_fields)),
             Call::DeskReply { frame, buf } => lent(buf, |room| self.desk.reply(&frame, room).map(reply_fields)),
-            Call::DeskCancel { job, address } => {
-                plain(self.desk.cancel(job, address).map(|()| closed_fields((job, address))))
+            Call::DeskCancel { job, address, clock } => {
+                plain(self.desk.cancel(job, address, clock).map(|()| closed_fields((job, address))))
             }
             Call::DeskExpire { clock } => plain(self.desk.expire(clock).map(closed_fields)),
             Call::DeskDump => plain(Ok(desk_fields(&self.desk))),
@@ -333,13 +327,15 @@ fn bench_fields(bench: &Bench) -> String {
     format!("address={} regs={}", bench.address, list(bench.registers.iter().map(shown).collect()))
 }
 
-/// The desk's turn and its tickets, by rising address.
+/// The desk's turn, its tickets, and the addresses without one whose last was cancelled or expired, by rising address.
 fn desk_fields(desk: &Desk) -> String {
     let shown = |(address, ticket): (&u8, &Ticket)| {
         let Ticket { job, module, type_no, register, wait, opened } = ticket;
         format!("{address}:{job}:{module}:{type_no}:{register}:{wait}:{opened}")
     };
-    format!("turn={} tickets={}", desk.turn, list(desk.tickets.iter().map(shown).collect()))
+    let tickets = list(desk.tickets.iter().map(shown).collect());
+    let closed = list(desk.closed.iter().map(|(address, clock)| format!("{address}:{clock}")).collect());
+    format!("turn={} tickets={tickets} closed={closed}", desk.turn)
 }
 
 /// The entries of a list parted by commas, `-` for none.

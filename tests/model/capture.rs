@@ -12,10 +12,15 @@ const RIGS: [u8; 4] = [15, 10, 94, 160];
 /// The registers of each module.
 const REGISTERS: [u8; 7] = [0x10, 0x30, 0x31, 0x5E, 0x66, 0x71, 0x0D];
 
-/// The line: one desk and four rigs that answer it.
+/// What one exchange takes, in ms: a round of all 95 addresses takes longer than a rest, so that no address is
+/// passed over.
+const EXCHANGE: u32 = 20;
+
+/// The line: one desk, the clock on the wall, and four rigs that answer.
 struct Line {
     random: Random,
     desk: Desk,
+    clock: u32,
     rigs: Vec<Bench>,
 }
 
@@ -34,7 +39,7 @@ impl Line {
     /// The line of this seed, before any traffic.
     fn new(seed: u64) -> Line {
         let rigs = RIGS.iter().filter_map(|own| rig(*own)).collect();
-        Line { random: Random::new(seed), desk: Desk::new(), rigs }
+        Line { random: Random::new(seed), desk: Desk::new(), clock: 0, rigs }
     }
 }
 
@@ -130,7 +135,8 @@ fn ended_runaway(line: &mut Line, traffic: usize, length: usize, mark: u8) -> Ve
 /// A request to one of the rigs and its reply; now and then the reply is lost and the ticket cancelled.
 fn exchange(line: &mut Line) -> Vec<u8> {
     let rig = line.random.below(line.rigs.len());
-    let request = request(&mut line.random, line.rigs[rig].address);
+    line.clock = line.clock.wrapping_add(EXCHANGE);
+    let request = request(&mut line.random, line.rigs[rig].address, line.clock);
     let (address, mut traffic) = match line.desk.open(&request, usize::MAX) {
         Ok(opened) => opened,
         Err(_) => return Vec::new(),
@@ -140,15 +146,15 @@ fn exchange(line: &mut Line) -> Vec<u8> {
         traffic.extend(reply);
         return traffic;
     }
-    line.desk.cancel(request.job, address).map_or_else(|_| Vec::new(), |()| traffic)
+    line.desk.cancel(request.job, address, line.clock).map_or_else(|_| Vec::new(), |()| traffic)
 }
 
 /// A request for a module, of a size that fits some of its registers.
-fn request(random: &mut Random, module: u8) -> Request {
+fn request(random: &mut Random, module: u8, clock: u32) -> Request {
     let type_no = random.pick(&[4, 4, 4, 5, 6, 7, 9]);
     let length = if type_no == 4 { 0 } else { random.pick(&[1, 2, 4, 8]) };
     let (job, register, data) = (random.between(1, 40) as u32, random.pick(&REGISTERS), data(random, length));
-    Request { job, module, type_no, register, data, wait: 100, clock: 0 }
+    Request { job, module, type_no, register, data, wait: 100, clock }
 }
 
 /// Bytes outside of any order.

@@ -1,6 +1,7 @@
 //! How often each call was answered in each way, and whether every way occurred.
 
 use crate::calls::lines;
+use crate::rests::Rests;
 use crate::telegram::No;
 use std::collections::BTreeMap;
 
@@ -19,7 +20,7 @@ const ORDERS: [(&str, &[No]); 20] = [
     ("bench.dump", &[]),
     ("desk.new", &[]),
     ("desk.open", &[10, 11, 12, 13, 14, 15, 16]),
-    ("desk.reply", &[1, 2, 3, 4, 5, 6, 7, 8, 9, 17, 18, 19, 20]),
+    ("desk.reply", &[1, 2, 3, 4, 5, 6, 7, 8, 9, 61, 17, 18, 19, 20]),
     ("desk.cancel", &[21]),
     ("desk.expire", &[22]),
     ("desk.dump", &[]),
@@ -76,11 +77,13 @@ pub fn count(script: &[u8], answers: &[u8]) -> (String, bool) {
     let over_borders = Chunks::of(&calls, &answers).times;
     let never = OVER_BORDERS.iter().zip(over_borders).filter(|(_, times)| *times == 0);
     complaints.extend(never.map(|(line, _)| format!("over chunk borders: {line} never occurred")));
+    let rests = Rests::of(&calls, &answers);
+    complaints.extend(rests.missing());
     if calls.len() != answers.len() {
         complaints.push(format!("{} calls but {} answers", calls.len(), answers.len()));
     }
     let told: String = complaints.iter().map(|line| format!("{line}\n")).collect();
-    (table(&counts) + &borders_line(over_borders) + &told, complaints.is_empty())
+    (table(&counts) + &borders_line(over_borders) + &rests.lines() + &told, complaints.is_empty())
 }
 
 /// What calls and answers tell of the chunks: the place of the next byte, where the latest chunk of any bytes began,

@@ -7,6 +7,8 @@ pub const FIRST_HOST: u8 = 161;
 pub const LAST_HOST: u8 = 255;
 /// How many host addresses there are to give.
 pub const HOSTS: u8 = 95;
+/// How long an address rests after a cancel or an expiry: under so many milliseconds.
+pub const REST: u32 = 1000;
 
 /// What a job asks the desk to open a ticket for.
 #[derive(Clone)]
@@ -35,6 +37,14 @@ pub struct Ticket {
 pub struct Desk {
     pub turn: u8,
     pub tickets: BTreeMap<u8, Ticket>,
+    /// The addresses without a ticket whose last one was cancelled or expired, with the clock of that closing.
+    /// It is kept, however old, until the address is given out again.
+    pub closed: BTreeMap<u8, u32>,
+}
+
+/// How long ago a reading was, at this clock: the clock minus that reading, modulo 4294967296.
+pub fn age(clock: u32, then: u32) -> u32 {
+    (i64::from(clock) - i64::from(then)).rem_euclid(4294967296) as u32
 }
 
 impl Request {
@@ -74,10 +84,9 @@ impl Request {
 }
 
 impl Ticket {
-    /// Due when the age, the clock minus the opening modulo 4294967296, is at least the waiting time.
-    fn is_due(&self, clock: u32) -> bool {
-        let age = (i64::from(clock) - i64::from(self.opened)).rem_euclid(4294967296);
-        age >= i64::from(self.wait)
+    /// Due when the ticket's age is at least its waiting time.
+    pub fn is_due(&self, clock: u32) -> bool {
+        age(clock, self.opened) >= self.wait
     }
 
     /// A read is answered by type 8, 0, 1 or 2, a write of any sort by 3, 0, 1 or 2.
@@ -93,32 +102,49 @@ impl Ticket {
 }
 
 impl Desk {
-    /// A fresh desk: no tickets, the next turn at 161.
+    /// A fresh desk: no tickets, none closed, the next turn at 161.
     pub fn new() -> Desk {
-        Desk { turn: FIRST_HOST, tickets: BTreeMap::new() }
+        Desk { turn: FIRST_HOST, tickets: BTreeMap::new(), closed: BTreeMap::new() }
     }
 
-    /// The first address without a ticket, from the turn upwards and after 255 from 161 on.
-    fn free_address(&self) -> Option<u8> {
+    /// Whether an address rests at this clock: its last ticket was cancelled or expired under 1000 ms ago.
+    pub fn rests(&self, address: u8, clock: u32) -> bool {
+        self.closed.get(&address).map_or(false, |closing| age(clock, *closing) < REST)
+    }
+
+    /// The first address that is neither open nor resting at this clock, from the turn upwards and after 255
+    /// from 161 on.
+    fn free_address(&self, clock: u32) -> Option<u8> {
         let from_turn = self.turn..=LAST_HOST;
-        from_turn.chain(FIRST_HOST..=LAST_HOST).find(|address| !self.tickets.contains_key(address))
+        from_turn
+            .chain(FIRST_HOST..=LAST_HOST)
+            .find(|address| !self.tickets.contains_key(address) && !self.rests(*address, clock))
+    }
+
+    /// Closes the ticket on an address without a reply: the address rests from this clock on.
+    fn close(&mut self, address: u8, clock: u32) {
+        self.tickets.remove(&address);
+        self.closed.insert(address, clock);
     }
 
     /// Opens a ticket and answers its address and the telegram, for a buffer with this room: 10 to 16.
     pub fn open(&mut self, request: &Request, room: usize) -> Result<(u8, Vec<u8>), No> {
         request.check()?;
-        let address = self.free_address().ok_or(15u32)?;
+        let address = self.free_address(request.clock).ok_or(15u32)?;
         let telegram = request.message(address).telegram();
         lowest(&[(16, telegram.len() > room)])?;
         self.tickets.insert(address, request.ticket());
+        self.closed.remove(&address);
         self.turn = if address == LAST_HOST { FIRST_HOST } else { address + 1 };
         Ok((address, telegram))
     }
 
-    /// Books a reply, with this room for its data: 1 to 9, then 17 to 20. Answers the job and the reply.
+    /// Books a reply, with this room for its data: 1 to 9, then 61 or 17, then 18 to 20. Answers the job and
+    /// the reply. The address is free at once.
     pub fn reply(&mut self, frame: &[u8], room: usize) -> Result<(u32, Message), No> {
         let reply = telegram::read(frame, room)?;
-        let ticket = self.tickets.get(&reply.dest).ok_or(17u32)?;
+        let without = if self.closed.contains_key(&reply.dest) { 61u32 } else { 17 };
+        let ticket = self.tickets.get(&reply.dest).ok_or(without)?;
         lowest(&[
             (18, reply.source != ticket.module),
             (19, !ticket.kind_fits(&reply)),
@@ -129,19 +155,21 @@ impl Desk {
         Ok((job, reply))
     }
 
-    /// Closes the ticket that is open on the address for that job now, or 21.
-    pub fn cancel(&mut self, job: u32, address: u8) -> Result<(), No> {
+    /// Closes the ticket that is open on the address for that job now, or 21; the address rests from the call's
+    /// clock on.
+    pub fn cancel(&mut self, job: u32, address: u8, clock: u32) -> Result<(), No> {
         let held = self.tickets.get(&address).map_or(false, |ticket| ticket.job == job);
         lowest(&[(21, !held)])?;
-        self.tickets.remove(&address);
+        self.close(address, clock);
         Ok(())
     }
 
-    /// Closes the due ticket with the lowest address and answers job and address, or 22.
+    /// Closes the due ticket with the lowest address and answers job and address, or 22; the address rests from
+    /// the call's clock on.
     pub fn expire(&mut self, clock: u32) -> Result<(u32, u8), No> {
         let due = self.tickets.iter().find(|(_, ticket)| ticket.is_due(clock));
         let (job, address) = due.map(|(address, ticket)| (ticket.job, *address)).ok_or(22u32)?;
-        self.tickets.remove(&address);
+        self.close(address, clock);
         Ok((job, address))
     }
 }

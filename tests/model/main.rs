@@ -13,6 +13,7 @@ mod listing;
 mod random;
 mod receiver;
 mod remainder;
+mod rests;
 mod script;
 mod telegram;
 mod values;

@@ -4,6 +4,7 @@ mod bench_walk;
 mod desk_walk;
 mod numbers;
 mod receiver_walk;
+mod rest_walk;
 mod rough;
 mod telegrams;
 
@@ -21,7 +22,7 @@ pub struct Script {
 type Section = fn(&mut Script);
 
 /// One round of sections; a script is made of rounds, each in another order.
-const ROUND: [Section; 17] = [
+const ROUND: [Section; 22] = [
     rough::any_numbers,
     rough::bad_lines,
     telegrams::remainders,
@@ -39,6 +40,11 @@ const ROUND: [Section; 17] = [
     desk_walk::expiries,
     desk_walk::mixed,
     desk_walk::mixed,
+    rest_walk::edges,
+    rest_walk::open_and_resting,
+    rest_walk::all_resting,
+    rest_walk::late_answers,
+    rest_walk::any_clocks,
 ];
 
 /// The sections on the receiver, after each round. They have a generator of their own, so that a seed's other lines are

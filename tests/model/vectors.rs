@@ -31,7 +31,7 @@ const EXAMPLE_ANSWERS: &str = "\
 ok rem=51126
 no 1 buf=ffff
 ok address=161 n=8 buf=0d0fa104669ee60a00000000
-ok turn=162 tickets=161:7:15:4:102:100:0
+ok turn=162 tickets=161:7:15:4:102:100:0 closed=-
 ok
 ok
 ok
@@ -39,6 +39,23 @@ ok address=15 regs=49:4:3:fbff
 ok buf=feff00
 ok kind=3 write=1 lo=0 hi=65535
 no 34
+";
+
+/// The part of the call scripts' later example that is about rests.
+const LATE_CALLS: &str = "\
+desk.open 7 15 4 102 - 1000 3 0 000000000000000000000000
+desk.cancel 7 161 40
+desk.reply 0da10f08663412965b0a 0000
+desk.dump
+desk.open 8 15 4 102 - 10 4 50 000000000000000000000000
+";
+
+const LATE_ANSWERS: &str = "\
+ok address=161 n=8 buf=0d0fa104669ee60a00000000
+ok job=7 address=161
+no 61 buf=0000
+ok turn=162 tickets=- closed=161:40
+ok address=162 n=8 buf=0d0fa20466c7b60a00000000
 ";
 
 const RECEIVER_CALLS: &str = "\
@@ -67,11 +84,19 @@ ok 1 refused 1 dropped 0
 
 /// One line for each check, and whether all of them hold.
 pub fn report() -> (String, bool) {
-    let checks: Vec<Check> =
-        [table_facts(), manual_examples(), both_sides(), listings(), long_frames(), receivers(), last_places()]
-            .into_iter()
-            .flatten()
-            .collect();
+    let checks: Vec<Check> = [
+        table_facts(),
+        manual_examples(),
+        both_sides(),
+        rests(),
+        listings(),
+        long_frames(),
+        receivers(),
+        last_places(),
+    ]
+    .into_iter()
+    .flatten()
+    .collect();
     (checks.iter().map(line).collect(), checks.iter().all(holds))
 }
 
@@ -183,6 +208,29 @@ fn both_sides() -> Vec<Check> {
         starts("module 161", opened(1, 161, 20), "no 11 "),
         starts("buffer of the telegram's length", opened(1, 15, 8), "ok address=161 n=8 "),
         starts("buffer one less", opened(1, 15, 7), "no 16 "),
+    ]
+}
+
+/// Both sides of a rest's 1000 ms, on a desk with no other address left; the clock's wrap within it, and a
+/// clock one back.
+fn rests() -> Vec<Check> {
+    let open = |clock: u32| format!("desk.open 1 15 4 102 - 1 0 {clock} {}\n", "a1".repeat(20));
+    let last = |name, closing: &str, clock: u32, want: &str| {
+        let said = answers((open(0).repeat(95) + closing + "\n" + &open(clock)).as_bytes());
+        let got = said.lines().last().unwrap_or("").chars().take(want.len()).collect();
+        Check { name, got, want: want.to_string() }
+    };
+    let cancelled = "desk.cancel 1 200 5000";
+    let at_the_wrap = "desk.cancel 1 200 4294967290";
+    vec![
+        calls("the call scripts' example of a late answer", LATE_CALLS, LATE_ANSWERS),
+        last("999 ms after a cancel", cancelled, 5999, "no 15 "),
+        last("1000 ms after a cancel", cancelled, 6000, "ok address=200 "),
+        last("one ms before a cancel", cancelled, 4999, "ok address=200 "),
+        last("999 ms over the wrap", at_the_wrap, 993, "no 15 "),
+        last("1000 ms over the wrap", at_the_wrap, 994, "ok address=200 "),
+        last("999 ms after an expiry", "desk.expire 7000", 7999, "no 15 "),
+        last("1000 ms after an expiry", "desk.expire 7000", 8000, "ok address=161 "),
     ]
 }
 

@@ -8,9 +8,9 @@ use crate::random::Random;
 use crate::telegram::{frame, Message, No, MOST_DATA};
 
 /// A walk under way: the script, the clock on the wall, and the last reply that was offered rightly.
-struct Walk<'a> {
+pub struct Walk<'a> {
     script: &'a mut Script,
-    clock: u32,
+    pub clock: u32,
     last_reply: String,
 }
 
@@ -29,13 +29,7 @@ pub fn no_desk_yet(script: &mut Script) {
 
 /// Fills the desk to 95 tickets, is refused the 96th, closes and opens by turns, and lets tickets expire.
 pub fn full_desk(script: &mut Script) {
-    let mut walk = Walk::new(script);
-    while walk.desk().tickets.len() < usize::from(HOSTS) {
-        walk.open();
-        if walk.random().one_in(12) {
-            walk.any_refused_open();
-        }
-    }
+    let mut walk = Walk::full(script);
     walk.dump();
     for _ in 0..8 {
         walk.open();
@@ -97,32 +91,48 @@ pub fn mixed(script: &mut Script) {
 
 impl<'a> Walk<'a> {
     /// A walk on a fresh desk, its clock near the wrap in half of the cases.
-    fn new(script: &'a mut Script) -> Walk<'a> {
+    pub fn new(script: &'a mut Script) -> Walk<'a> {
         script.call("desk.new");
         let clock = script.random.pick(&[0, 1, 4294967295, 4294967200, 4294960000, 4294900000]);
         let clock = if script.random.one_in(3) { script.random.word() } else { clock };
         Walk { script, clock, last_reply: "desk.dump".to_string() }
     }
 
+    /// A walk on a desk that was filled to 95 tickets, a refused opening among them now and then.
+    pub fn full(script: &'a mut Script) -> Walk<'a> {
+        let mut walk = Walk::new(script);
+        while walk.desk().tickets.len() < usize::from(HOSTS) {
+            walk.open();
+            if walk.random().one_in(12) {
+                walk.any_refused_open();
+            }
+        }
+        walk
+    }
+
     /// The generator of the script.
-    fn random(&mut self) -> &mut Random {
+    pub fn random(&mut self) -> &mut Random {
         &mut self.script.random
     }
 
     /// The desk as the script has it now.
-    fn desk(&self) -> &Desk {
+    pub fn desk(&self) -> &Desk {
         &self.script.rehearsal.desk
     }
 
     /// Adds the desk's state to the script.
-    fn dump(&mut self) {
+    pub fn dump(&mut self) {
         self.script.call("desk.dump");
     }
 
-    /// Lets the clock run on a little, over its wrap too; now and then it is set back.
-    fn tick(&mut self) {
+    /// Lets the clock run on a little, over its wrap too; now and then it is set back, by one or further.
+    pub fn tick(&mut self) {
         let ahead = self.random().pick(&[0, 1, 3, 20, 150, 1000]);
-        let back = if self.random().one_in(60) { 5000 } else { 0 };
+        let back = match self.random().below(60) {
+            0 => 5000,
+            1 => ahead + 1,
+            _ => 0,
+        };
         self.clock = self.clock.wrapping_add(ahead).wrapping_sub(back);
     }
 
@@ -146,7 +156,7 @@ impl<'a> Walk<'a> {
     }
 
     /// A request that can be opened.
-    fn request(&mut self) -> Request {
+    pub fn request(&mut self) -> Request {
         let clock = self.clock;
         let random = self.random();
         let type_no = random.pick(&[4, 4, 4, 5, 5, 6, 7, 9]);
@@ -183,16 +193,29 @@ impl<'a> Walk<'a> {
         self.script.call(format!("desk.open {job} {module} {type_no} {register} {data} {wait} {folder} {clock} {buf}"));
     }
 
-    /// A right opening with enough room; a full desk refuses it.
-    fn open(&mut self) {
+    /// A right opening with enough room; it is refused where each address is open or rests.
+    pub fn open(&mut self) {
+        let request = self.request();
+        self.open_for(&request);
+    }
+
+    /// An opening for this request with enough room.
+    pub fn open_for(&mut self, request: &Request) {
+        let needed = self.telegram_length(request);
+        let room = enough(self.random(), needed);
+        self.open_with(request, room);
+    }
+
+    /// A right opening with too little room: 16, or 15 where each address is open or rests.
+    pub fn open_short(&mut self) {
         let request = self.request();
         let needed = self.telegram_length(&request);
-        let room = enough(self.random(), needed);
+        let room = too_little(self.random(), needed);
         self.open_with(&request, room);
     }
 
     /// An opening that is refused with one of the rows 10 to 14 or 16, with later faults by chance.
-    fn any_refused_open(&mut self) {
+    pub fn any_refused_open(&mut self) {
         let row = self.random().pick(&[10, 11, 12, 13, 14, 16, 16]);
         let mut request = self.request();
         let random = self.random();
@@ -205,7 +228,7 @@ impl<'a> Walk<'a> {
     }
 
     /// A ticket that is open, with its address.
-    fn ticket(&mut self) -> Option<(u8, Ticket)> {
+    pub fn ticket(&mut self) -> Option<(u8, Ticket)> {
         let addresses: Vec<u8> = self.desk().tickets.keys().copied().collect();
         if addresses.is_empty() {
             return None;
@@ -215,7 +238,7 @@ impl<'a> Walk<'a> {
     }
 
     /// A reply that fits a ticket.
-    fn fitting_reply(&mut self, address: u8, ticket: &Ticket) -> Message {
+    pub fn fitting_reply(&mut self, address: u8, ticket: &Ticket) -> Message {
         let random = self.random();
         let own = if ticket.type_no == 4 { 8 } else { 3 };
         let type_no = random.pick(&[own, own, 0, 1, 2]);
@@ -229,14 +252,14 @@ impl<'a> Walk<'a> {
     }
 
     /// Adds a reply with a buffer of that length.
-    fn reply_with(&mut self, frame: &[u8], room: usize) -> String {
+    pub fn reply_with(&mut self, frame: &[u8], room: usize) -> String {
         let line = format!("desk.reply {} {}", hex(frame), hex(&buffer(room)));
         self.script.call(&line);
         line
     }
 
     /// A reply that fits, with buffers around the very length of its data.
-    fn right_reply(&mut self) {
+    pub fn right_reply(&mut self) {
         if let Some((address, ticket)) = self.ticket() {
             let reply = self.fitting_reply(address, &ticket);
             let room = room(self.random(), reply.data.len());
@@ -267,8 +290,12 @@ impl<'a> Walk<'a> {
         self.reply_with(&reply.telegram(), room);
     }
 
-    /// An address no ticket is open on: a free host's, or a module's.
+    /// An address no ticket is open on: one whose last ticket was cancelled or expired, a free host's, or a module's.
     fn address_without_ticket(&mut self) -> u8 {
+        let closed: Vec<u8> = self.desk().closed.keys().copied().collect();
+        if !closed.is_empty() && self.random().one_in(3) {
+            return self.random().pick(&closed);
+        }
         let free: Vec<u8> =
             (FIRST_HOST..=LAST_HOST).filter(|address| !self.desk().tickets.contains_key(address)).collect();
         match free.is_empty() || self.random().one_in(4) {
@@ -283,8 +310,13 @@ impl<'a> Walk<'a> {
             Some(held) => held,
             None => return self.open(),
         };
+        let reply = self.fitting_reply(address, &ticket);
+        self.unread(reply);
+    }
+
+    /// This reply spoilt by one of the rows 1 to 9.
+    pub fn unread(&mut self, mut reply: Message) {
         let row = self.random().between(1, 9) as No;
-        let mut reply = self.fitting_reply(address, &ticket);
         let random = self.random();
         if row == 6 && reply.data.is_empty() {
             reply.data = data(random, 3);
@@ -318,7 +350,7 @@ impl<'a> Walk<'a> {
     }
 
     /// Adds a cancel.
-    fn cancel(&mut self, job: u32, address: u8) {
+    pub fn cancel(&mut self, job: u32, address: u8) {
         let clock = self.clock;
         self.script.call(format!("desk.cancel {job} {address} {clock}"));
     }
@@ -331,7 +363,7 @@ impl<'a> Walk<'a> {
     }
 
     /// A cancel for another job, for job 0, or on an address without a ticket.
-    fn wrong_cancel(&mut self) {
+    pub fn wrong_cancel(&mut self) {
         let free = self.address_without_ticket();
         match self.ticket() {
             Some((address, ticket)) if !self.random().one_in(3) => {
@@ -346,7 +378,7 @@ impl<'a> Walk<'a> {
     }
 
     /// Adds an expiry at this clock reading.
-    fn expire(&mut self, clock: u32) {
+    pub fn expire(&mut self, clock: u32) {
         self.script.call(format!("desk.expire {clock}"));
     }
 
@@ -424,7 +456,7 @@ fn spoil_reply(random: &mut Random, reply: &mut Message, ticket: &Ticket, free: 
 }
 
 /// An address that is neither 0 nor this one.
-fn other_address(random: &mut Random, not: u8) -> u8 {
+pub fn other_address(random: &mut Random, not: u8) -> u8 {
     let others: Vec<u8> =
         [1, 2, 15, 160, 161, 255, not ^ 1, not ^ 128].into_iter().filter(|other| ![0, not].contains(other)).collect();
     random.pick(&others)

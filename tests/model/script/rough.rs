@@ -66,7 +66,7 @@ const ODD_WORDS: [&str; 32] = [
 ];
 
 /// Lines that are no calls, and numbers one past their type.
-const NO_CALLS: [&str; 18] = [
+const NO_CALLS: [&str; 20] = [
     "",
     " ",
     "-",
@@ -84,6 +84,8 @@ const NO_CALLS: [&str; 18] = [
     "val.put 7 -9223372036854775809 a1a2a3a4a5a6a7a8",
     "desk.expire 4294967296",
     "desk.cancel 4294967296 161 0",
+    "desk.cancel 1 161 4294967296",
+    "desk.cancel 1 161",
     "desk.open 1 15 4 102 - 100 4294967296 0 a1a2a3a4a5a6a7a8a9aaab",
 ];
 
