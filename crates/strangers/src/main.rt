@@ -8,7 +8,7 @@ use desk::Request;
 use desk::Ticket;
 use libc::STDOUT_FILENO;
 
-// Its type is no request's, and it has no time to wait.
+// Its type is no request's, it has no time to wait, and it is open and was given up at 7 at once.
 const ODD: Ticket = Ticket {
     live: true,
     asked: Request {
@@ -19,6 +19,8 @@ const ODD: Ticket = Ticket {
         wait: 0,
     },
     opened: 0,
+    withdrawn: true,
+    closed: 7,
 };
 
 fn main() {
@@ -28,7 +30,8 @@ fn main() {
 }
 
 // A turn past the last place, which counts round after 95 places, and a ticket that no opening makes:
-// it counts as a write's, and is due at once.
+// it counts as open and as a write's, and is due at once. Where it is not open, its address rests to
+// 1006, and a reply to it is late.
 fn desks() {
     let fresh = desk::fresh();
     let none = fresh.tickets;
@@ -52,6 +55,20 @@ fn desks() {
         call(last, b"desk.expire 0"),
         b"desk.open 1 15 4 48 - 1 0 0 eeeeeeeeeeeeee",
     );
+    let mut gone = none;
+    gone[0] = ODD;
+    gone[0].live = false;
+    let mut d = Desk {
+        turn: 95,
+        tickets: gone,
+    };
+    d = call(d, b"desk.reply 0da10f0330d3f30a eeeeeeee");
+    d = call(d, b"desk.cancel 9 161 0");
+    d = call(
+        d,
+        b"desk.open 1 15 4 48 - 1 0 1006 eeeeeeeeeeeeeeeeeeeeeeee",
+    );
+    dump(d);
 }
 
 // A count of 99, and 32 times a register of kind 0, which has no bytes. All 32 are held, the first of
