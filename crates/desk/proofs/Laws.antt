@@ -4,11 +4,11 @@
 use mathlib.Core.Path.{_≡_, refl, sym, ap, ap₂, _∙_}
 use mathlib.Core.Bool.{Bool, true, false, cond, not, _&&_, true≢false}
 use mathlib.Core.List.{List, [], _∷_}
-use mathlib.Core.Logic.{_≢_}
+use mathlib.Core.Logic.{_≢_, _⊎_}
 use mathlib.Core.Option.{some, none}
 use Prim.Native.Nat.{ℕ, zero, suc, _+_, _-_, _%_, _≤_, _<_}
 use native.Mathlib.Omega.{arith}
-use borrow.Author.Tests.{ltb-false, leb-true, leb-false, not-false, le-ltb, le-leb}
+use borrow.Author.Tests.{ltb-false, leb-true, leb-false, not-false, le-ltb, le-leb, lt-leb}
 use lib.Dec.{eqb, ltb, leb}
 use lib.ListN.{length, getD, take, set}
 use lib.Seq.{getD-set-same, getD-set-other}
@@ -34,7 +34,7 @@ use Rattle.telegram.specs.declared.Reading.{Reading}
 use Rattle.telegram.specs.declared.Reading.the-variants.{Telegram}
 use Rattle.telegram.specs.declared.Fault.{Fault as Unreadable}
 use Rattle.ticket.proofs.Laws.{fitting, decides-due, decides-free}
-use Rattle.ticket.specs.Due.{IsDue}
+use Rattle.ticket.specs.Due.{age, IsDue}
 use Rattle.ticket.specs.Fit.{KindFits, RegisterFits, fitRefusal}
 use Rattle.ticket.specs.Rest.{isFree}
 use Rattle.ticket.specs.Ticket.{Open, noTicket, newTicket, withdrawnAt}
@@ -46,7 +46,7 @@ use Rattle.desk.specs.Close.{isTheirs, cancelRefusal, Cancels, Expires, 
 use Rattle.desk.specs.Desk.{freshDesk, ticketAt, ticketOn, OpenOn, putAt, faultNumber, Fresh, Looks, Numbers}
 use Rattle.desk.specs.Open.{placeFrom, distanceOf, givenPlace, requestAt, placeTests, openRefusal, openAnswer, withTicket, Opens}
 use Rattle.desk.specs.Outcome.{Given, ClosedAlone, Books, Expired}
-use Rattle.desk.specs.Reply.{bookRefusal, replyRefusal, answeredOn, Replies}
+use Rattle.desk.specs.Reply.{bookRefusal, replyRefusal, bookTold, answeredOn, Replies}
 use Rattle.desk.specs.declared.Desk.{Desk}
 use Rattle.desk.specs.declared.Fault.{Fault}
 use Rattle.desk.specs.declared.Fault.the-variants.{Denied, NoneFree, NoRoom, Unread, Misfit, NotTheirs, NothingDue}
@@ -324,6 +324,58 @@ cancel-refusal-keeps desk job address clock r f c e = let o = close-refused (can
 
 pub expire-refusal-keeps : (desk : Desk) (clock : ℕ) (r : AfterClose) (f : Fault) → Expires desk clock r → r .answer ≡ NotClosed f → r .desk ≡ desk
 expire-refusal-keeps desk clock r f x e = let o = close-refused (expireRefusal desk clock) _ _ f (sym e ∙ x .0) in x .1 ∙ rw o
+
+-- a reply to an address under 161, where no ticket can be, is 17
+pub under-hosts : (desk : Desk) (frame room : List ℕ) (r : AfterReply) (room′ : List ℕ) → Replies desk frame room r room′
+    → readRefusal frame (length room) ≡ none → fieldsIn frame .destination < 161 → bookTold (r .answer) ≡ some 17
+unfolding replyRefusal bookRefusal fitRefusal
+under-hosts desk frame room r room′ replies read low = ap bookTold (replies .0) ∙ rw read (simp (lt-leb 161 (fieldsIn frame .destination) low))
+
+-- ---- what the records above say, said out
+
+pub given-plainly : {desk : Desk} {asked : Request} {clock address : ℕ} {desk′ : Desk} → Given desk asked clock address desk′
+    → (161 ≤ address) × (address ≤ 255)
+    × (ticketOn desk address .live ≡ false)
+    × ((ticketOn desk address .withdrawn ≡ true) × (age clock (ticketOn desk address .closed) < 1000) → ⊥)
+    × (address ≡ 161 + (desk .turn + distanceOf desk clock) % 95) × (distanceOf desk clock < 95)
+    × ((k : ℕ) → k < distanceOf desk clock
+    → (ticketOn desk (161 + (desk .turn + k) % 95) .live ≡ true)
+    ⊎ ((ticketOn desk (161 + (desk .turn + k) % 95) .withdrawn ≡ true) × (age clock (ticketOn desk (161 + (desk .turn + k) % 95) .closed) < 1000)))
+    × (ticketOn desk′ address ≡ record { live = true; asked = asked; opened = clock; withdrawn = false; closed = 0 })
+    × ((other : ℕ) → other ≢ address → ticketOn desk′ other ≡ ticketOn desk other)
+    × (desk′ .turn ≡ (address - 161 + 1) % 95)
+given-plainly g = (g .host, g .last, g .free .0, g .free .1, g .found, g .near, g .passed, g .stands, g .others, g .turn-after)
+
+pub closed-plainly : {desk : Desk} {address : ℕ} {left : Ticket} {desk′ : Desk} → ClosedAlone desk address left desk′
+    → (ticketOn desk address .live ≡ true)
+    × (ticketOn desk′ address ≡ left)
+    × ((other : ℕ) → other ≢ address → ticketOn desk′ other ≡ ticketOn desk other)
+    × (desk′ .turn ≡ desk .turn)
+closed-plainly c = (c .was-open, c .closed, c .others, c .turn-kept)
+
+pub books-plainly : {desk : Desk} {frame : List ℕ} {room : ℕ} {t : Fields} {job address sort n : ℕ} {desk′ : Desk}
+    → Books desk frame room t job address sort n desk′
+    → (readFrame frame room ≡ Telegram t)
+    × (address ≡ t .destination)
+    × (job ≡ ticketOn desk address .asked .job)
+    × (t .source ≡ ticketOn desk address .asked .unit)
+    × KindFits (ticketOn desk address .asked .sort) (t .sort)
+    × RegisterFits (ticketOn desk address .asked .register) (t .sort) (t .register)
+    × (sort ≡ t .sort)
+    × (n ≡ t .size)
+    × ClosedAlone desk address noTicket desk′
+books-plainly b =
+    (b .was-read, b .for-address, b .theirs, b .from-module, b .kind-fits, b .register-fits, b .type-answered, b .size-answered, b .closes)
+
+pub expired-plainly : {desk : Desk} {clock job address : ℕ} {desk′ : Desk} → Expired desk clock job address desk′
+    → (ticketOn desk address .live ≡ true)
+    × (ticketOn desk address .asked .wait ≤ age clock (ticketOn desk address .opened))
+    × ((other : ℕ) → 161 ≤ other → other < address
+    → (ticketOn desk other .live ≡ true) × (ticketOn desk other .asked .wait ≤ age clock (ticketOn desk other .opened)) → ⊥)
+    × (address ≤ 255)
+    × (job ≡ ticketOn desk address .asked .job)
+    × ClosedAlone desk address (withdrawnAt clock) desk′
+expired-plainly e = (e .due .0, e .due .1, e .lowest, e .last, e .theirs, e .closes)
 
 -- ---- looking at an address shows the ticket that is open there, or when its last one was cancelled or expired, or nothing
 

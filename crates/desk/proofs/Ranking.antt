@@ -2,8 +2,8 @@
 -- Assumes nothing.
 use mathlib.Core.Path.{_≡_, refl, ap, _∙_}
 use mathlib.Core.Bool.{true, false}
-use mathlib.Core.List.{List, [], _∷_}
-use mathlib.Core.Logic.{_⊎_}
+use mathlib.Core.List.{List, [], _∷_, _++_}
+use mathlib.Core.Logic.{_≢_, _⊎_}
 use mathlib.Core.Option.{Option, some, none}
 use Prim.Native.Nat.{ℕ, _+_, _-_, _%_, _≤_, _<_}
 use native.Mathlib.Omega.{arith}
@@ -18,10 +18,11 @@ use Rattle.rows.proofs.Laws.{Decides, decides-lt, decides-eq, decides-not, deci
 use Rattle.rows.specs.Rows.{Ranked, Numbered, row, firstOf, passedUp, raised}
 use Rattle.telegram.proofs.Ranking.{read-ranked}
 use Rattle.telegram.specs.Read.{readRows, readRefusal, fieldsIn}
+use Rattle.telegram.specs.Read.{faultNumber as readNumber}
 use Rattle.telegram.specs.declared.Fields.{Fields}
 use Rattle.ticket.proofs.Laws.{fit-ranked, decides-due, decides-free, open-or-rests, taken-not-free}
 use Rattle.ticket.specs.Due.{age, IsDue, isDue}
-use Rattle.ticket.specs.Fit.{fitRows, fitRefusal}
+use Rattle.ticket.specs.Fit.{KindFits, RegisterFits, IsWithdrawn, IsNoTicket, IsOtherModule, IsOtherKind, IsOtherRegister, fitRows, fitRefusal}
 use Rattle.ticket.specs.Rest.{Rests, isFree}
 use Rattle.ticket.specs.Ticket.{Open}
 use Rattle.ticket.specs.declared.Ticket.{Ticket}
@@ -174,7 +175,7 @@ expire-exactly desk clock r o =
     numbered faultNumber (expireRows desk clock) (expireRefusal desk clock) (expire-ranked desk clock)
     (22 ∷ []) refl refl (closeTold (r .answer)) (ap closeTold (o .0) ∙ close-tells (expireRefusal desk clock) _ _)
 
--- ---- the rows of opening, cancelling and expiring written out, each with its number; those of a reply are in the crate `ticket`
+-- ---- the rows of the calls written out, each with its number; the reader's are those of the crate `telegram`
 
 pub open-plainly : (desk : Desk) (asked : Request) (bytes : List ℕ) (clock : ℕ) (room : List ℕ) (r : AfterOpen) (room′ : List ℕ)
     → Opens desk asked bytes clock room r room′
@@ -191,6 +192,19 @@ pub open-plainly : (desk : Desk) (asked : Request) (bytes : List ℕ) (clock : �
     (10 ∷ 11 ∷ 12 ∷ 13 ∷ 14 ∷ 15 ∷ 16 ∷ []) (openTold (r .answer))
 unfolding openRows placeRows askRows IsNoJob IsNotAModule IsNotARequest IsWrongData IsWrongWait IsNoneFree IsNoRoom
 open-plainly desk asked bytes clock room r room′ o = open-exactly desk asked bytes clock room r room′ o
+
+pub reply-plainly : (desk : Desk) (frame room : List ℕ) (r : AfterReply) (room′ : List ℕ) → Replies desk frame room r room′
+    → Numbered
+    (passedUp readNumber (readRows frame (length room))
+    ++ (row ((ticketOn desk (fieldsIn frame .destination) .live ≡ true → ⊥) × (ticketOn desk (fieldsIn frame .destination) .withdrawn ≡ true)) 61
+    ∷ row (ticketOn desk (fieldsIn frame .destination) .live ≡ true → ⊥) 17
+    ∷ row (fieldsIn frame .source ≢ ticketOn desk (fieldsIn frame .destination) .asked .unit) 18
+    ∷ row (KindFits (ticketOn desk (fieldsIn frame .destination) .asked .sort) (fieldsIn frame .sort) → ⊥) 19
+    ∷ row (RegisterFits (ticketOn desk (fieldsIn frame .destination) .asked .register) (fieldsIn frame .sort) (fieldsIn frame .register) → ⊥) 20
+    ∷ []))
+    (1 ∷ 2 ∷ 3 ∷ 4 ∷ 5 ∷ 6 ∷ 7 ∷ 8 ∷ 9 ∷ 61 ∷ 17 ∷ 18 ∷ 19 ∷ 20 ∷ []) (bookTold (r .answer))
+unfolding replyRows bookRows readRows fitRows IsWithdrawn IsNoTicket IsOtherModule IsOtherKind IsOtherRegister
+reply-plainly desk frame room r room′ o = reply-exactly desk frame room r room′ o
 
 pub cancel-plainly : (desk : Desk) (job address clock : ℕ) (r : AfterClose) → Cancels desk job address clock r
     → Numbered (row ((ticketOn desk address .live ≡ true) × (ticketOn desk address .asked .job ≡ job) → ⊥) 21 ∷ []) (21 ∷ []) (closeTold (r .answer))

@@ -18,8 +18,9 @@ use Rattle.ticket.specs.Rest.{Free}
 use Rattle.ticket.specs.declared.Ticket.{Ticket}
 use Rattle.desk.specs.declared.Desk.{Desk}
 use Rattle.nights.proofs.Fair.{Sweep, one-place, opens-or-stays, free-before-again}
+use Rattle.nights.proofs.Plainly.{counted-one}
 use Rattle.nights.specs.Night.{Call, after, eventOf, afterAll}
-use Rattle.nights.specs.Round.{GivesAt, Gives, GivenIn, OpensWhile, oneOpening, openingsIn, countOf, isClear, othersFree}
+use Rattle.nights.specs.Round.{Gives, Among, Each, GivenIn, OpensWhile, oneOpening, openingsIn, countOf, isClear, othersFree}
 
 -- ---- counting
 
@@ -60,14 +61,10 @@ one-fewer fits one (suc n) = go (fits n) (eqb n one) refl (one-fewer fits one n)
 
 -- ---- openings
 
-gives-counts : (desk : Desk) (call : Call) (place clock : ℕ) → GivesAt desk call place clock → oneOpening (eventOf desk call) ≡ 1
-unfolding GivesAt
-gives-counts desk call place clock g = rw (g .1)
-
 -- each opening gives one place, so as many places as are given need as many openings
 given-count : (calls : List Call) (desk : Desk) (fits : ℕ → Bool) → ((q : ℕ) → q < 95 → fits q ≡ true → GivenIn desk calls q)
     → countOf fits 95 ≤ openingsIn desk calls
-unfolding GivenIn openingsIn
+unfolding Among openingsIn
 given-count [] desk fits all = let e : countOf fits 95 ≡ 0 = none-fit fits 95 all in omega arith
 given-count (call ∷ calls) desk fits all =
     ⊎-elim
@@ -88,12 +85,12 @@ given-count (call ∷ calls) desk fits all =
         → countOf fits 95 ≤ oneOpening (eventOf desk call) + openingsIn (after desk call) calls
     opening clock o h =
         let k : countOf fits 95 ≤ 1 + countOf (but fits (givenPlace desk clock)) 95 = one-fewer fits (givenPlace desk clock) 95 in
-        omega (arith, gives-counts desk call (givenPlace desk clock) clock (o .gives))
+        omega (arith, counted-one desk call (givenPlace desk clock) (clock, o .gives))
 
 -- what the last call does not give, the others do
 given-earlier : (calls : List Call) (desk : Desk) (last : Call) (q : ℕ) → (Gives (afterAll desk calls) last q → ⊥) → GivenIn desk (calls ++ (last ∷ [])) q
     → GivenIn desk calls q
-unfolding GivenIn afterAll
+unfolding Among afterAll
 given-earlier [] desk last q other = ⊎-elim (λ g. absurd (other g)) (λ never. never)
 given-earlier (call ∷ calls) desk last q other = ⊎-elim (λ g. inl g) (λ later. inr (given-earlier calls (after desk call) last q other later))
 
@@ -118,7 +115,7 @@ clear-exactly ticket = (
     never false e rested = e
 
 each-while : (such : ℕ → Type 0) → ((clock : ℕ) → such clock) → (calls : List Call) (desk : Desk) → OpensWhile such desk calls
-unfolding OpensWhile
+unfolding Each
 each-while such always [] desk = tt
 each-while such always (call ∷ calls) desk = (λ place clock g. always clock, each-while such always calls (after desk call))
 

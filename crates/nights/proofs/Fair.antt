@@ -31,7 +31,7 @@ use Rattle.ticket.specs.Rest.{Rests, Free}
 use Rattle.ticket.specs.Ticket.{Open, noTicket, newTicket}
 use Rattle.ticket.specs.declared.Ticket.{Ticket}
 use Rattle.nights.specs.Night.{Call, after, afterAll, eventOf, ofOpening, ofBooking, ofClosing}
-use Rattle.nights.specs.Round.{GivesAt, Gives, PassesOver, Met, GivenIn, OpensWhile}
+use Rattle.nights.specs.Round.{GivesAt, Gives, PassesOver, Among, Each, Met, GivenIn, OpensWhile, oneOpening}
 use Rattle.nights.specs.Night.{asks, brings, cancels, expires, opened}
 
 -- ---- what a caller saw, and what the desk did
@@ -82,7 +82,16 @@ pub record Sweep (desk : Desk) (call : Call) (clock : ℕ) : Type 0 where
 -- a call that gives no address
 pub record Stays (desk : Desk) (call : Call) : Type 0 where
   pub gives-none : (place : ℕ) → Gives desk call place → ⊥
+  pub counts-none : oneOpening (eventOf desk call) ≡ 0
   pub turn-kept : after desk call .turn ≡ desk .turn
+
+booking-counts : (o : Option Fault) (there : Ticket) (t : Fields) (frame : List ℕ) → oneOpening (ofBooking (bookAnswer o there t) frame) ≡ 0
+booking-counts none there t frame = refl
+booking-counts (some f) there t frame = refl
+
+closing-counts : (o : Option Fault) (there : Ticket) (address at : ℕ) → oneOpening (ofClosing (closeAnswer o there address) at) ≡ 0
+closing-counts none there address at = refl
+closing-counts (some f) there address at = refl
 
 closing-stays : (o : Option Fault) (desk : Desk) (address clock : ℕ) → closeDesk o desk address clock .turn ≡ desk .turn
 closing-stays none desk address clock = refl
@@ -132,24 +141,28 @@ opens-or-stays desk (asks asked bytes clock room) = go (openRefusal desk asked b
         inr
         (record {
           gives-none = λ place g. clash (let z : none ≡ some f = sym (opening-told _ _ _ asked clock (161 + place) _ _ (g .1 .1) .0) ∙ e in cc);
+          counts-none = rw e;
           turn-kept = rw e;
         })
 opens-or-stays desk (brings frame room) =
     inr
     (record {
       gives-none = λ place g. booking-told (replyRefusal desk frame (length room)) _ (fieldsIn frame) frame _ _ _ (g .1 .1);
+      counts-none = booking-counts (replyRefusal desk frame (length room)) _ (fieldsIn frame) frame;
       turn-kept = booking-stays (replyRefusal desk frame (length room)) desk (fieldsIn frame);
     })
 opens-or-stays desk (cancels job address clock) =
     inr
     (record {
       gives-none = λ place g. closing-told (cancelRefusal desk job address) _ address clock _ _ _ (g .1 .1);
+      counts-none = closing-counts (cancelRefusal desk job address) _ address clock;
       turn-kept = closing-stays (cancelRefusal desk job address) desk address clock;
     })
 opens-or-stays desk (expires clock) =
     inr
     (record {
       gives-none = λ place g. closing-told (expireRefusal desk clock) _ (161 + duePlace desk clock) clock _ _ _ (g .1 .1);
+      counts-none = closing-counts (expireRefusal desk clock) _ (161 + duePlace desk clock) clock;
       turn-kept = closing-stays (expireRefusal desk clock) desk (161 + duePlace desk clock) clock;
     })
 
@@ -172,7 +185,7 @@ meets p s j desk call clock o lo turn h =
 
 sweep : (p : ℕ) → p < 95 → (calls : List Call) (last : Call) (desk : Desk) (s j : ℕ) → desk .turn ≡ (p + 1 + s) % 95 → s ≤ j → j < 94
     → Gives (afterAll desk calls) last p → Met desk (calls ++ (last ∷ [])) ((p + 1 + j) % 95)
-unfolding Met afterAll givenPlace
+unfolding Among afterAll givenPlace
 sweep p hp [] last desk s j turn lo hi g =
     let o = gives-opening desk last p (g .0) (g .1) in
     inl (meets p s j desk last (g .0) (o .0) lo turn (reaches p s j (distanceOf desk (g .0)) (desk .turn) hp (o .0 .near) lo hi turn (o .1)))
@@ -253,7 +266,7 @@ given-or-stays desk (expires clock) place shut =
 
 free-given : (calls : List Call) (desk : Desk) (place : ℕ) (there : Ticket) → ticketAt desk place ≡ there → there .live ≡ false
     → OpensWhile (λ clock. Free clock there) desk calls → Met desk calls place → GivenIn desk calls place
-unfolding Met GivenIn PassesOver OpensWhile
+unfolding Among Each PassesOver
 free-given [] desk place there same shut while met = met
 free-given (call ∷ calls) desk place there same shut while met =
     ⊎-elim (⊎-elim (λ g. inl g) (λ over. absurd (taken-not-free (over .0) there (rw same at (over .3)) (while .0 _ (over .0) (over .1)))))

@@ -39,7 +39,7 @@ use Rattle.nights.proofs.Fair.{gives-opening, given-or-stays}
 use Rattle.nights.proofs.Laws.{any-night}
 use Rattle.nights.specs.Night.{Call, Event, after, ofOpening, ofBooking, ofClosing, eventOf, afterAll, answeredAll, Last, lastOn, kept, Kept}
 use Rattle.nights.specs.Night.{asks, brings, cancels, expires, opened, booked, withdrawn, nothing, never, stands, answered, givenUp}
-use Rattle.nights.specs.Round.{GivesAt, Gives, GivenIn}
+use Rattle.nights.specs.Round.{GivesAt, Gives, Among, GivenIn}
 
 -- ---- what a cancel or an expiry leaves on the address, until it is given out again
 
@@ -74,7 +74,7 @@ withdrawn-left desk (expires at) job place clock e =
 
 still-withdrawn : (calls : List Call) (desk : Desk) (place clock : ℕ) → ticketAt desk place ≡ withdrawnAt clock → (GivenIn desk calls place → ⊥)
     → ticketAt (afterAll desk calls) place ≡ withdrawnAt clock
-unfolding GivenIn afterAll
+unfolding Among afterAll
 still-withdrawn [] desk place clock e none-gives = e
 still-withdrawn (call ∷ calls) desk place clock e none-gives =
     ⊎-elim (λ g. absurd (none-gives (inl g)))

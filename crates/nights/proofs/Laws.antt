@@ -1,6 +1,6 @@
 -- What holds over any sequence of calls from a fresh desk on.
 -- Assumes nothing.
-use mathlib.Core.Path.{_≡_, refl, sym, ap, _∙_}
+use mathlib.Core.Path.{_≡_, refl, sym, ap, subst, _∙_}
 use mathlib.Core.Bool.{Bool, true, false, cond, not, true≢false}
 use mathlib.Core.List.{List, [], _∷_}
 use mathlib.Core.Logic.{_≢_}
@@ -31,6 +31,8 @@ use Rattle.rows.proofs.Laws.{decides-le, decides-eq, decides-or, decides-and, f
 use Rattle.telegram.specs.Read.{fieldsIn}
 use Rattle.telegram.specs.declared.Fields.{Fields}
 use Rattle.ticket.proofs.Laws.{rested}
+use Rattle.ticket.specs.Due.{age}
+use Rattle.ticket.specs.Fit.{KindFits, RegisterFits}
 use Rattle.ticket.specs.Rest.{Free}
 use Rattle.ticket.specs.Ticket.{Open, noTicket, newTicket, withdrawnAt}
 use Rattle.ticket.specs.declared.Ticket.{Ticket}
@@ -260,18 +262,31 @@ module _ (calls : List Call) (call : Call) where
   right-then = step desk-then past-then (any-night calls) call .right
 
   pub opened-where-free : (address : ℕ) (asked : Request) (clock : ℕ) → eventOf desk-then call ≡ opened address asked clock
-      → MayBeGiven (lastOn past-then address) clock
+      → ((theirs : Request) (opening : ℕ) → lastOn past-then address ≡ stands theirs opening → ⊥)
+      × ((closing : ℕ) → lastOn past-then address ≡ givenUp closing → 1000 ≤ age clock closing)
   unfolding Right
-  opened-where-free address asked clock e = (rw e at right-then) .0
+  opened-where-free address asked clock e =
+      let may : MayBeGiven (lastOn past-then address) clock = (rw e at right-then) .0 in
+      (λ theirs opening p. subst (λ (l : Last). MayBeGiven l clock) p may, λ closing p. subst (λ (l : Last). MayBeGiven l clock) p may)
 
   pub booked-where-fits : (job address source sort register : ℕ) → eventOf desk-then call ≡ booked job address source sort register
-      → Fitting (lastOn past-then address) job source sort register
+      → (asked : Request) × (opening : ℕ)
+      × (lastOn past-then address ≡ stands asked opening)
+      × (job ≡ asked .job)
+      × (source ≡ asked .unit)
+      × KindFits (asked .sort) sort
+      × RegisterFits (asked .register) sort register
   unfolding Right
-  booked-where-fits job address source sort register e = (rw e at right-then) .0
+  booked-where-fits job address source sort register e =
+      let fit : Fitting (lastOn past-then address) job source sort register = (rw e at right-then) .0 in
+      (fit .asked, fit .opening, fit .is-open, fit .theirs, fit .from-module, fit .kind-fits, fit .register-fits)
 
-  pub withdrawn-where-theirs : (job address clock : ℕ) → eventOf desk-then call ≡ withdrawn job address clock → Theirs (lastOn past-then address) job
+  pub withdrawn-where-theirs : (job address clock : ℕ) → eventOf desk-then call ≡ withdrawn job address clock
+      → (asked : Request) × (opening : ℕ) × (lastOn past-then address ≡ stands asked opening) × (job ≡ asked .job)
   unfolding Right
-  withdrawn-where-theirs job address clock e = (rw e at right-then) .0
+  withdrawn-where-theirs job address clock e =
+      let own : Theirs (lastOn past-then address) job = (rw e at right-then) .0 in
+      (own .asked, own .opening, own .is-open, own .theirs)
 
 -- at most one ticket to an address and at most 95 in all: a ticket is open on a host address or not at all
 pub on-hosts-only : (desk : Desk) → SoundDesk desk → (address : ℕ) → OpenOn desk address → (161 ≤ address) × (address ≤ 255)

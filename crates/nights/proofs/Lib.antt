@@ -1,4 +1,5 @@
 pub mod Laws
 pub mod Fair
+pub mod Plainly
 pub mod Count
 pub mod Late

@@ -31,20 +31,27 @@ PassesOver desk call place =
     × ((k : ℕ) × (k < distanceOf desk clock) × (place ≡ placeFrom (desk .turn) k))
     × (Open (ticketAt desk place) ⊎ Rests clock (ticketAt desk place))
 
+-- of one of the calls, on the desk that the calls before it left, something holds
+unfoldable pub Among : (Desk → Call → Type 0) → Desk → List Call → Type 0
+Among holds desk [] = ⊥
+Among holds desk (c ∷ cs) = holds desk c ⊎ Among holds (after desk c) cs
+
+-- of each of them
+unfoldable pub Each : (Desk → Call → Type 0) → Desk → List Call → Type 0
+Each holds desk [] = Unit {0}
+Each holds desk (c ∷ cs) = holds desk c × Each holds (after desk c) cs
+
 -- one of the calls gives the place or passes it over
-unfoldable pub Met : Desk → List Call → ℕ → Type 0
-Met desk [] place = ⊥
-Met desk (c ∷ cs) place = (Gives desk c place ⊎ PassesOver desk c place) ⊎ Met (after desk c) cs place
+abbrev pub Met : Desk → List Call → ℕ → Type 0
+Met desk calls place = Among (λ d c. Gives d c place ⊎ PassesOver d c place) desk calls
 
 -- one of the calls gives the place
-unfoldable pub GivenIn : Desk → List Call → ℕ → Type 0
-GivenIn desk [] place = ⊥
-GivenIn desk (c ∷ cs) place = Gives desk c place ⊎ GivenIn (after desk c) cs place
+abbrev pub GivenIn : Desk → List Call → ℕ → Type 0
+GivenIn desk calls place = Among (λ d c. Gives d c place) desk calls
 
 -- each call that gives an address does it at such a clock
-unfoldable pub OpensWhile : (ℕ → Type 0) → Desk → List Call → Type 0
-OpensWhile such desk [] = Unit {0}
-OpensWhile such desk (c ∷ cs) = ((place clock : ℕ) → GivesAt desk c place clock → such clock) × OpensWhile such (after desk c) cs
+abbrev pub OpensWhile : (ℕ → Type 0) → Desk → List Call → Type 0
+OpensWhile such desk calls = Each (λ d c. (place clock : ℕ) → GivesAt d c place clock → such clock) desk calls
 
 -- ---- how many openings lie between two that give one address
 

@@ -44,7 +44,7 @@ pub use Rattle.ticket.proofs.Laws.{fit-exactly}
 pub use Rattle.desk.proofs.Ranking.{open-exactly, reply-exactly, cancel-exactly, expire-exactly}
 -- the same with every condition written out
 pub use Rattle.ticket.proofs.Laws.{fit-plainly}
-pub use Rattle.desk.proofs.Ranking.{open-plainly, cancel-plainly, expire-plainly}
+pub use Rattle.desk.proofs.Ranking.{open-plainly, reply-plainly, cancel-plainly, expire-plainly}
 -- rows 30 to 38, and 6, which cannot arise
 pub use Rattle.bench.proofs.Laws.{make-exactly, add-exactly, set-exactly, take-exactly, never-6}
 -- rows 40 to 44

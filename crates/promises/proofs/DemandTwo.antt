@@ -50,7 +50,8 @@ pub use Rattle.bench.proofs.Shown.{added-shown, set-shown, set-read, written-sh
 pub use Rattle.bench.proofs.Kept.{made-sound}
 -- ---- "and the desk its listed rules": the address that is given, the request that is written, the tickets that are closed
 pub use Rattle.desk.proofs.Laws.{fresh-is, fresh-opens, opened-given, request-written, request-reads-back}
-pub use Rattle.desk.proofs.Laws.{booked-right, cancelled-right, expired-right, unread-passed-up}
+pub use Rattle.desk.proofs.Laws.{booked-right, cancelled-right, expired-right, unread-passed-up, under-hosts}
+pub use Rattle.desk.proofs.Laws.{given-plainly, books-plainly, closed-plainly, expired-plainly}
 pub use Rattle.desk.proofs.Laws.{look-open, look-withdrawn, look-nothing}
 pub use Rattle.ticket.proofs.Laws.{read-answered-by, write-answered-by, zero-carried-by, own-carried-by, other-carried-by}
 pub use Rattle.ticket.proofs.Laws.{tells-free, tells-due, age-after, age-set-back, set-back-due}
@@ -61,6 +62,7 @@ pub use Rattle.nights.proofs.Laws.{any-night, on-hosts-only, opens-after, repli
 pub use Rattle.nights.proofs.Laws.{opened-where-free, booked-where-fits, withdrawn-where-theirs}
 pub use Rattle.nights.proofs.Fair.{opened-gives, turn-fair, free-before-again}
 pub use Rattle.nights.proofs.Count.{clear-exactly, openings-between}
+pub use Rattle.nights.proofs.Plainly.{among-plainly, each-plainly, passed-plainly, counted-one, counted-none, count-plainly, others-are, last-there, last-elsewhere}
 -- 02, #102: after a cancel or an expiry the address rests, and a late answer is told as one; both before the address is given again
 pub use Rattle.nights.proofs.Late.{kept-then, rested-before-again, late-refused, nothing-booked, late-exactly, no-ticket-exactly}
 

@@ -1,4 +1,4 @@
--- "Numbers for what can't be done": the numbers, of the desk's 15, 17 and 61, each by inputs that its row alone refuses, and the next that is
+-- "Numbers for what can't be done": the numbers, of the desk's 15, 17 to 20 and 61, each by inputs that its row alone refuses, and the next that is
 -- not refused, with what the definitions tell there.
 -- Assumes nothing.
 use mathlib.Core.Bool.{Bool, true, _&&_}
@@ -83,12 +83,12 @@ restingDesk clock = record { turn = 0; tickets = replicate 95 (withdrawnAt clock
 abbrev pub opening : Desk → ℕ → Option ℕ
 opening desk clock = openTold (openAnswer (openRefusal desk request [] clock 494) (161 + givenPlace desk clock) 8)
 
+abbrev pub replying : Desk → List ℕ → Option ℕ
+replying desk frame = bookTold (bookAnswer (replyRefusal desk frame 240) (ticketOn desk 161) (fieldsIn frame))
+
 -- the reply to that request
 abbrev pub reply : List ℕ
 reply = telegramFor 161 15 8 102 (0x34 ∷ 0x12 ∷ [])
-
-abbrev pub replying : Desk → Option ℕ
-replying desk = bookTold (bookAnswer (replyRefusal desk reply 240) (ticketOn desk 161) (fieldsIn reply))
 
 -- ---- the table: the reader and the writer, the values, the catalogue, the bench at 15 with register 48, a U8, the receiver, and the desk
 
@@ -160,8 +160,11 @@ refusals =
     ∷ gives (opening (restingDesk 40) 39) 0
     ∷ gives (opening (restingDesk 4294966796) 499) 15
     ∷ gives (opening (restingDesk 4294966796) 500) 0
-    ∷ gives (replying askedDesk) 0
-    ∷ gives (replying freshDesk) 17
-    ∷ gives (replying usedDesk) 17
-    ∷ gives (replying (withdrawnOn askedDesk 161 40)) 61
+    ∷ gives (replying askedDesk reply) 0
+    ∷ gives (replying freshDesk reply) 17
+    ∷ gives (replying usedDesk reply) 17
+    ∷ gives (replying (withdrawnOn askedDesk 161 40) reply) 61
+    ∷ gives (replying askedDesk (telegramFor 161 10 8 102 [])) 18
+    ∷ gives (replying askedDesk (telegramFor 161 15 3 102 [])) 19
+    ∷ gives (replying askedDesk (telegramFor 161 15 8 103 [])) 20
     ∷ []
