@@ -51,8 +51,9 @@ pub fn restore(bytes: &[u8], room: &mut [u8]) -> usize
     let mut n = 0;
     let mut i = 0;
     while i < bytes.len() {
-        n += restore_one(after, bytes[i], room, n);
-        after = opens_pair(after, bytes[i]);
+        let turned = restore_one(after, bytes[i], room, n);
+        n += turned.more;
+        after = turned.after;
         i += 1;
     }
     n
@@ -78,26 +79,35 @@ fn substitute_one(byte: u8, room: &mut [u8], at: usize) -> usize
     }
 }
 
-// Lays what one byte is turned back to, which may be nothing, and answers how many bytes that is.
-// `after` says that a 94 came last.
-fn restore_one(after: bool, byte: u8, room: &mut [u8], at: usize) -> usize
-    ensures { λ r. ⌜ (r ≡ length (restoreOf after byte)) × (now (room .exit) ≡ overAt at (restoreOf after byte) (now (room .entry))) ⌝ }
+// What one byte is turned back to: how many bytes that is, and whether it is a 94 that opens a pair.
+struct Turned {
+    more: usize,
+    after: bool,
+}
+
+// Lays what one byte is turned back to, which may be nothing. `after` says that such a 94 came last.
+fn restore_one(after: bool, byte: u8, room: &mut [u8], at: usize) -> Turned
+    ensures { λ r. ⌜ (r .more ≡ length (restoreOf after byte)) × (r .after ≡ opens after byte)
+        × (now (room .exit) ≡ overAt at (restoreOf after byte) (now (room .entry))) ⌝ }
 {
     if after {
         lent::lay_at(&[less_64(byte)], room, at);
-        return 1;
+        return Turned {
+            more: 1,
+            after: false,
+        };
     }
     if byte == SUBSTITUTION {
-        return 0;
+        return Turned {
+            more: 0,
+            after: true,
+        };
     }
     lent::lay_at(&[byte], room, at);
-    1
-}
-
-fn opens_pair(after: bool, byte: u8) -> bool
-    ensures { λ r. ⌜ r ≡ opens after byte ⌝ }
-{
-    !after && byte == SUBSTITUTION
+    Turned {
+        more: 1,
+        after: false,
+    }
 }
 
 // A byte under 64 is no substitute; it counts as 64.

@@ -3,3 +3,4 @@ pub mod Division
 pub mod Bytes
 pub mod Laws
 pub mod Nearby
+pub mod Halves

@@ -48,15 +48,9 @@ restore-one-requires c κs = search needs
 
 add-n : tie.Need-add-n Inv-loop μ-loop
 add-n c =
-    let args = c .before .before .before .before .before .before .before .before .before .args in
-    let loop = c .before .before .before .before .before .before .loop in
-    record { fits = omega (arith, given-one (loop .after) (args .bytes .now) (loop .i) (c .before .before .restore-one .ensures .0)) }
-
-shared-slice-read-opens-pair : tie.Need-shared-slice-read-opens-pair Inv-loop μ-loop
-shared-slice-read-opens-pair c = search needs
-
-opens-pair-requires : tie.Need-opens-pair-requires Inv-loop μ-loop
-opens-pair-requires c κs = search needs
+    let args = c .before .before .before .before .before .before .before .before .before .before .args in
+    let loop = c .before .before .before .before .before .before .before .loop in
+    record { fits = omega (arith, given-one (loop .after) (args .bytes .now) (loop .i) (c .before .before .before .restore-one .ensures .0)) }
 
 add-i : tie.Need-add-i Inv-loop μ-loop
 add-i c = search needs
@@ -66,17 +60,15 @@ loop-less c = search needs
 
 loop-again : tie.Need-loop-again Inv-loop μ-loop
 loop-again c =
-    let args = c .before .before .before .before .before .before .before .before .before .before .before .args in
-    let loop = c .before .before .before .before .before .before .before .before .loop in
-    let loop-test = c .before .before .before .before .before .before .before .loop-test in
-    let restore-one = c .before .before .before .before .restore-one in (
+    let args = c .before .before .before .before .before .before .before .before .before .before .args in
+    let loop = c .before .before .before .before .before .before .before .loop in
+    let loop-test = c .before .before .before .before .before .before .loop-test in
+    let turned = c .before .before .before .restore-one .ensures in (
       omega arith,
-      omega (arith, given-one (loop .after) (args .bytes .now) (loop .i) (restore-one .ensures .0)),
-      ap length (restore-one .ensures .1)
-          ∙ length-overAt _ _ _ ∙ loop .inv .2,
-      counted _ _ _ _ _ _ _ (loop-test .taken) (c .opens-pair .ensures) (restore-one .ensures .0)
-          (loop .inv .3),
-      step _ _ _ _ _ _ _ _ _ (loop-test .taken) (c .opens-pair .ensures) (restore-one .ensures) (loop .inv .4),
+      omega (arith, given-one (loop .after) (args .bytes .now) (loop .i) (turned .0)),
+      ap length (turned .2) ∙ length-overAt _ _ _ ∙ loop .inv .2,
+      counted _ _ _ _ _ _ _ (loop-test .taken) (turned .1) (turned .0) (loop .inv .3),
+      step _ _ _ _ _ _ _ _ _ (loop-test .taken) (turned .1) (turned .0, turned .2) (loop .inv .4),
     )
 
 same-length : tie.Need-same-length Inv-loop μ-loop
@@ -98,8 +90,6 @@ restore-spec =
     shared-slice-read-restore-one
     restore-one-requires
     add-n
-    shared-slice-read-opens-pair
-    opens-pair-requires
     add-i
     loop-less
     loop-again

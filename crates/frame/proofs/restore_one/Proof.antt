@@ -20,10 +20,10 @@ same-length c = search needs
 returns : tie.Need-returns
 returns c =
     let if1 = c .before .before .before .before .before .before .if1 in
-    (rw (if1 .taken), rw (if1 .taken, ← c .before .before .before .before .before .less-64 .ensures) (c .before .before .lay-at .ensures))
+    (rw (if1 .taken), rw (if1 .taken), rw (if1 .taken, ← c .before .before .before .before .before .less-64 .ensures) (c .before .before .lay-at .ensures))
 
 returns-2 : tie.Need-returns-2
-returns-2 c = rw (c .before .if1 .left) (simp (eq-eqb _ _ (c .if2 .taken)) (refl, sym (overAt-none _ _)))
+returns-2 c = rw (c .before .if1 .left) (simp (eq-eqb _ _ (c .if2 .taken)) (refl, refl, sym (overAt-none _ _)))
 
 slice-aggregate-lay-at-2 : tie.Need-slice-aggregate-lay-at-2
 slice-aggregate-lay-at-2 c = search needs
@@ -35,7 +35,9 @@ same-length-2 : tie.Need-same-length-2
 same-length-2 c = search needs
 
 returns-3 : tie.Need-returns-3
-returns-3 c = rw (c .before .before .before .before .before .before .if1 .left) (simp (ne-eqb _ _ (c .before .before .before .before .before .if2 .left)) (refl, c .before .before .lay-at2 .ensures))
+returns-3 c =
+    rw (c .before .before .before .before .before .before .if1 .left)
+    (simp (ne-eqb _ _ (c .before .before .before .before .before .if2 .left)) (refl, refl, c .before .before .lay-at2 .ensures))
 
 pub restore-one-spec : {M : Type 1} → statement M
 restore-one-spec =

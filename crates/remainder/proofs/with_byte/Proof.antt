@@ -1,65 +1,52 @@
--- `with_byte` is `withByte`. The invariant: what is still to be done to `next` gives the result.
+-- `with_byte` is `withByte`, by the table's rule.
 -- Assumes nothing.
-use mathlib.Core.Path.{_≡_, sym, ap}
-use Prim.Native.Nat.{ℕ, zero, suc, _<_, _-_, _*_, _^_, _≤_}
-use native.Mathlib.Nat.{mod-eq-of-lt}
-use native.Mathlib.Numerals.{sub-one}
 use native.Mathlib.Omega.{arith}
 use borrow.Author.Needs.{needs}
-use Rattle.remainder.specs.Remainder.{timesX, timesXs, withByte, _⊕_}
+use Rattle.remainder.proofs.Halves.{entry-under, high-under, low-under, by-table}
 use Rattle.remainder.proofs.with_byte.Statement.{statement}
 use Rattle.remainder.proofs.with_byte.Tie as tie
 
-step : (left next result w : ℕ) → 0 < left → result ≡ timesX next → timesXs left next ≡ w → timesXs (left - 1) result ≡ w
-unfolding timesXs
-step zero next result w pos e inv = absurd (omega arith)
-step (suc left) next result w pos e inv = rw (sub-one (suc left), e) inv
+mul-result : tie.Need-mul-result
+mul-result c = search needs
 
-abbrev Inv-loop : tie.InvT-loop
-Inv-loop sum byte next₀ left₀ next left = (left ≤ 8) × (timesXs left next ≡ withByte sum byte)
+mul-result-2 : tie.Need-mul-result-2
+mul-result-2 c = omega (arith, high-under (c .args .sum) (c .args .byte) (c .pre .0) (c .fits .byte .fits))
 
-abbrev μ-loop : tie.MeasureT-loop
-μ-loop sum byte next₀ left₀ next left = left
+element-copy-out-result : tie.Need-element-copy-out-result
+element-copy-out-result c = high-under (c .args .sum) (c .args .byte) (c .pre .0) (c .fits .byte .fits)
 
-mul-next : tie.Need-mul-next Inv-loop μ-loop
-mul-next c = search needs
+cast-result : tie.Need-cast-result
+cast-result c =
+    let s = c .before in
+    omega (arith, entry-under (s .args .halves .now) (s .pre .1) _ (high-under (s .args .sum) (s .args .byte) (s .pre .0) (s .fits .byte .fits)))
 
-loop-holds : tie.Need-loop-holds Inv-loop μ-loop
-unfolding withByte
-loop-holds c = (
-  omega arith,
-  ap (λ (b : ℕ). timesXs 8 (c .args .sum ⊕ b * 2 ^ 8)) (sym (mod-eq-of-lt (c .fits .byte .fits))),
-)
+mul-result-3 : tie.Need-mul-result-3
+mul-result-3 c = search needs
 
-times-x-requires : tie.Need-times-x-requires Inv-loop μ-loop
-times-x-requires c κs = search needs
+mul-result-4 : tie.Need-mul-result-4
+mul-result-4 c = let s = c .before in omega (arith, low-under (s .args .sum) (s .args .byte) (s .pre .0) (s .fits .byte .fits))
 
-sub-left : tie.Need-sub-left Inv-loop μ-loop
-sub-left c = search needs
+element-copy-out-result-2 : tie.Need-element-copy-out-result-2
+element-copy-out-result-2 c = let s = c .before in low-under (s .args .sum) (s .args .byte) (s .pre .0) (s .fits .byte .fits)
 
-loop-less : tie.Need-loop-less Inv-loop μ-loop
-loop-less c = search needs
+cast-result-2 : tie.Need-cast-result-2
+cast-result-2 c =
+    let s = c .before .before in
+    omega (arith, entry-under (s .args .halves .now) (s .pre .1) _ (low-under (s .args .sum) (s .args .byte) (s .pre .0) (s .fits .byte .fits)))
 
-loop-again : tie.Need-loop-again Inv-loop μ-loop
-loop-again c =
-    (omega arith, step _ _ _ _ (c .before .loop-test .taken) (c .times-x .ensures) (c .before .before .loop .inv .1))
-
-returns : tie.Need-returns Inv-loop μ-loop
-unfolding timesXs
-returns c =
-    let none : c .before .loop .left ≡ 0 = omega arith in
-    rw none at (c .before .loop .inv .1)
+returns : tie.Need-returns
+returns c = let s = c .before .before in by-table (s .args .sum) (s .args .byte) (s .pre .0) (s .fits .byte .fits) (s .args .halves .now) (s .pre .1)
 
 pub with-byte-spec : {M : Type 1} → statement M
 with-byte-spec =
     tie.close
     (tie.spec
-    Inv-loop
-    μ-loop
-    mul-next
-    loop-holds
-    times-x-requires
-    sub-left
-    loop-less
-    loop-again
+    mul-result
+    mul-result-2
+    element-copy-out-result
+    cast-result
+    mul-result-3
+    mul-result-4
+    element-copy-out-result-2
+    cast-result-2
     returns)
