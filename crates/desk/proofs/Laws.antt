@@ -1,15 +1,15 @@
--- What is promised of the desk, each law under the sentence that it keeps: 01 is the specification, M the mission. Rows 10 to 22 are in
--- Ranking.antt, and what holds over many calls in the crate `nights`.
+-- What is promised of the desk, each law under the sentence that it keeps: 01 is the specification, M the mission. Rows 10 to 22 and 61
+-- are in Ranking.antt, and what holds over many calls in the crate `nights`.
 -- Assumes nothing.
 use mathlib.Core.Path.{_≡_, refl, sym, ap, ap₂, _∙_}
-use mathlib.Core.Bool.{Bool, true, false, cond, not, _&&_, true≢false}
+use mathlib.Core.Bool.{Bool, true, false, cond, not, true≢false}
 use mathlib.Core.List.{List, [], _∷_}
 use mathlib.Core.Logic.{_≢_, _⊎_}
 use mathlib.Core.Option.{some, none}
 use Prim.Native.Nat.{ℕ, zero, suc, _+_, _-_, _%_, _≤_, _<_}
 use native.Mathlib.Omega.{arith}
 use borrow.Author.Tests.{ltb-false, leb-true, leb-false, not-false, le-ltb, le-leb, lt-leb}
-use lib.Dec.{eqb, ltb, leb}
+use lib.Dec.{ltb, leb}
 use lib.ListN.{length, getD, take, set}
 use lib.Seq.{getD-set-same, getD-set-other}
 use Rattle.rows.proofs.Settled.{settled, settled-parts}
@@ -44,7 +44,7 @@ use Rattle.desk.proofs.Calls.{live-host, only-room}
 use Rattle.desk.proofs.Ranking.{search-ended, search-passed, due-ended}
 use Rattle.desk.specs.Close.{isTheirs, cancelRefusal, Cancels, Expires, duePlace, expireRefusal, withdrawnOn}
 use Rattle.desk.specs.Desk.{freshDesk, ticketAt, ticketOn, OpenOn, putAt, faultNumber, Fresh, Looks, Numbers}
-use Rattle.desk.specs.Open.{placeFrom, distanceOf, givenPlace, requestAt, placeTests, openRefusal, openAnswer, withTicket, Opens}
+use Rattle.desk.specs.Open.{placeFrom, distanceOf, givenPlace, requestAt, placeTests, openRefusal, withTicket, Opens}
 use Rattle.desk.specs.Outcome.{Given, ClosedAlone, Books, Expired}
 use Rattle.desk.specs.Reply.{bookRefusal, replyRefusal, bookTold, answeredOn, Replies}
 use Rattle.desk.specs.declared.Desk.{Desk}

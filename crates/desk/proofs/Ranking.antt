@@ -1,4 +1,4 @@
--- Rows 10 to 22 are tested as 01 words them, in the order of each call: what a call refuses is what its rows give.
+-- Rows 10 to 22 and 61 are tested as the papers word them, in the order of each call: what a call refuses is what its rows give.
 -- Assumes nothing.
 use mathlib.Core.Path.{_≡_, refl, ap, _∙_}
 use mathlib.Core.Bool.{true, false}

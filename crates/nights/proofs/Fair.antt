@@ -5,12 +5,12 @@ use mathlib.Core.Bool.{Bool, true, false, true≢false}
 use mathlib.Core.List.{List, [], _∷_, _++_}
 use mathlib.Core.Logic.{_≢_, _⊎_, inl, inr, ⊎-elim}
 use mathlib.Core.Option.{Option, some, none}
-use Prim.Native.Nat.{ℕ, _+_, _-_, _%_, _≤_, _<_, zero, suc}
+use Prim.Native.Nat.{ℕ, _+_, _-_, _%_, _≤_, _<_}
 use native.Mathlib.Omega.{arith}
 use native.Mathlib.Decide.{decLe}
 use borrow.Author.Tests.{eqb-true, eqb-false, le-leb}
 use lib.Dec.{eqb}
-use lib.ListN.{length, getD, set}
+use lib.ListN.{length}
 use lib.Seq.{getD-set-other}
 use Rattle.rows.proofs.Laws.{clash}
 use Rattle.desk.proofs.Laws.{open-within, fit-to-open, fit-to-book, fit-to-cancel, fit-to-expire, opened-fit}
@@ -27,7 +27,7 @@ use Rattle.request.specs.declared.Request.{Request}
 use Rattle.telegram.specs.Read.{fieldsIn}
 use Rattle.telegram.specs.declared.Fields.{Fields}
 use Rattle.ticket.proofs.Laws.{taken-not-free}
-use Rattle.ticket.specs.Rest.{Rests, Free}
+use Rattle.ticket.specs.Rest.{Free}
 use Rattle.ticket.specs.Ticket.{Open, noTicket, newTicket}
 use Rattle.ticket.specs.declared.Ticket.{Ticket}
 use Rattle.nights.specs.Night.{Call, after, afterAll, eventOf, ofOpening, ofBooking, ofClosing}

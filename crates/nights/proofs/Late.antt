@@ -20,9 +20,8 @@ use Rattle.ticket.specs.Due.{age}
 use Rattle.ticket.specs.Fit.{fitRefusal}
 use Rattle.ticket.specs.Fit.{faultNumber as fitNumber}
 use Rattle.ticket.specs.Rest.{Free}
-use Rattle.ticket.specs.Ticket.{Open, newTicket, withdrawnAt}
+use Rattle.ticket.specs.Ticket.{newTicket, withdrawnAt}
 use Rattle.ticket.specs.declared.Fault.{Fault as Unfit}
-use Rattle.ticket.specs.declared.Fault.the-variants.{Withdrawn}
 use Rattle.ticket.specs.declared.Ticket.{Ticket}
 use Rattle.desk.proofs.Laws.{on-host, withdraws-alone, fit-to-book, fit-to-cancel, fit-to-expire}
 use Rattle.desk.proofs.Ranking.{search-ended, book-tells}
@@ -37,9 +36,9 @@ use Rattle.desk.specs.declared.Fault.the-variants.{Unread, Misfit}
 use Rattle.request.specs.declared.Request.{Request}
 use Rattle.nights.proofs.Fair.{gives-opening, given-or-stays}
 use Rattle.nights.proofs.Laws.{any-night}
-use Rattle.nights.specs.Night.{Call, Event, after, ofOpening, ofBooking, ofClosing, eventOf, afterAll, answeredAll, Last, lastOn, kept, Kept}
-use Rattle.nights.specs.Night.{asks, brings, cancels, expires, opened, booked, withdrawn, nothing, never, stands, answered, givenUp}
-use Rattle.nights.specs.Round.{GivesAt, Gives, Among, GivenIn}
+use Rattle.nights.specs.Night.{Call, after, ofOpening, ofBooking, ofClosing, eventOf, afterAll, answeredAll, Last, lastOn, kept, Kept}
+use Rattle.nights.specs.Night.{asks, brings, cancels, expires, booked, withdrawn, never, stands, answered, givenUp}
+use Rattle.nights.specs.Round.{GivesAt, Among, GivenIn}
 
 -- ---- what a cancel or an expiry leaves on the address, until it is given out again
 

@@ -5,14 +5,14 @@ use mathlib.Core.Bool.{Bool, true, false, cond, not, true≢false}
 use mathlib.Core.List.{List, [], _∷_}
 use mathlib.Core.Logic.{_≢_}
 use mathlib.Core.Option.{Option, some, none}
-use Prim.Native.Nat.{ℕ, zero, suc, _+_, _-_, _≤_, _<_}
+use Prim.Native.Nat.{ℕ, zero, suc, _+_, _-_, _≤_}
 use native.Mathlib.Omega.{arith}
 use borrow.Author.Tests.{eqb-true, eqb-false, not-false}
 use lib.Dec.{eqb, leb}
 use lib.ListN.{length, getD, set, replicate, length-set, length-replicate}
 use Rattle.desk.proofs.Laws.{open-within, answers-alone, withdraws-alone, given-at, fit-to-open, fit-to-book, fit-to-cancel, fit-to-expire}
 use Rattle.desk.specs.Close.{cancelRefusal, duePlace, expireRefusal, closeAnswer, closeDesk, withdrawnOn, Cancels, Expires}
-use Rattle.desk.specs.Desk.{freshDesk, ticketAt, ticketOn, OpenOn, putAt}
+use Rattle.desk.specs.Desk.{freshDesk, ticketOn, OpenOn, putAt}
 use Rattle.desk.specs.Open.{givenPlace, requestAt, openRefusal, openAnswer, withTicket, openDesk, Opens}
 use Rattle.desk.specs.Outcome.{Given, ClosedAlone}
 use Rattle.desk.specs.Reply.{replyRefusal, bookAnswer, bookDesk, answeredOn, Replies}

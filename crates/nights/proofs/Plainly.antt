@@ -4,12 +4,11 @@ use mathlib.Core.Path.{_≡_, refl, sym, ap, _∙_}
 use mathlib.Core.Bool.{Bool, true, cond, not, _&&_}
 use mathlib.Core.List.{List, [], _∷_, _++_}
 use mathlib.Core.Logic.{_≢_, _⊎_, _↔_, inl, inr, ⊎-elim}
-use Prim.Native.Nat.{ℕ, zero, suc, _+_, _%_, _<_}
+use Prim.Native.Nat.{ℕ, suc, _+_, _%_, _<_}
 use native.Mathlib.Omega.{arith}
 use borrow.Author.Tests.{eq-eqb, ne-eqb}
 use lib.Dec.{eqb}
 use Rattle.request.specs.declared.Request.{Request}
-use Rattle.rows.proofs.Laws.{clash}
 use Rattle.ticket.specs.Due.{age}
 use Rattle.desk.specs.Desk.{ticketAt}
 use Rattle.desk.specs.Open.{distanceOf, givenPlace}
@@ -17,7 +16,7 @@ use Rattle.desk.specs.declared.Desk.{Desk}
 use Rattle.nights.proofs.Fair.{gives-opening, opens-or-stays}
 use Rattle.nights.specs.Night.{Call, Event, after, eventOf, afterAll, lastOn}
 use Rattle.nights.specs.Night.{opened, booked, withdrawn, nothing, stands, answered, givenUp}
-use Rattle.nights.specs.Round.{GivesAt, Gives, PassesOver, Among, Each, oneOpening, openingsIn, countOf, isClear, othersFree}
+use Rattle.nights.specs.Round.{GivesAt, Gives, PassesOver, Among, Each, oneOpening, countOf, isClear, othersFree}
 
 -- ---- of one of the calls, of each of them
 

@@ -1,4 +1,5 @@
--- Each number where the paper gives it, by one computed statement over the table. The desk's others, 10 to 22, have laws of their own.
+-- Each number where the paper gives it, by one computed statement over the table. The desk's 10 to 14, 16, 21
+-- and 22 have laws of their own.
 -- Assumes nothing.
 use mathlib.Core.Path.{_≡_, refl}
 use mathlib.Core.Bool.{true}
