@@ -12,9 +12,18 @@ use words::byte;
 use words::count;
 use words::word32;
 
-// The desk after a call, and how long its answer is.
+// What others hear of a call: what the desk answered about a ticket, or that it is a new desk.
+pub enum Heard {
+    Nothing,
+    Reply(Booking),
+    Closing(Closing),
+    Anew,
+}
+
+// The desk after a call, what is heard of it, and how long its answer is.
 pub struct Told {
     pub desk: Desk,
+    pub heard: Heard,
     pub at: usize,
 }
 
@@ -49,6 +58,7 @@ fn renew(d: Desk, w: Words, line: &[u8], out: &mut [u8]) -> Told {
     if words::done(w, line) {
         return Told {
             desk: desk::fresh(),
+            heard: Heard::Anew,
             at: answers::ok(out),
         };
     }
@@ -121,6 +131,7 @@ fn open_now(d: Desk, ask: Ask, data: &[u8], times: Times, room: &mut [u8], out: 
     let next = after.desk;
     Told {
         desk: next,
+        heard: Heard::Nothing,
         at: answers::buffer(out, at, room),
     }
 }
@@ -157,6 +168,7 @@ fn reply_now(d: Desk, frame: &[u8], room: &mut [u8], out: &mut [u8]) -> Told {
     let next = after.desk;
     Told {
         desk: next,
+        heard: Heard::Reply(answer),
         at: answers::buffer(out, at, room),
     }
 }
@@ -207,6 +219,7 @@ fn closed(after: desk::AfterClose, out: &mut [u8]) -> Told {
     let next = after.desk;
     Told {
         desk: next,
+        heard: Heard::Closing(answer),
         at: closing(answer, out),
     }
 }
@@ -228,6 +241,7 @@ fn dump(d: Desk, w: Words, line: &[u8], out: &mut [u8]) -> Told {
         let last = answers::text(out, behind, b" closed=");
         return Told {
             desk: d,
+            heard: Heard::Nothing,
             at: addresses(d, out, last, true),
         };
     }
@@ -295,6 +309,7 @@ fn request_fields(asked: Request, out: &mut [u8], at: usize) -> usize {
 fn bad(d: Desk, out: &mut [u8]) -> Told {
     Told {
         desk: d,
+        heard: Heard::Nothing,
         at: answers::bad_line(out),
     }
 }

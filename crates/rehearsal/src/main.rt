@@ -3,10 +3,13 @@
 // cannot read on or cannot write an answer, it says so on standard error and ends.
 use bench::Bench;
 use desk::Desk;
+use desk_calls::Heard;
 use libc::STDERR_FILENO;
 use libc::STDIN_FILENO;
 use libc::STDOUT_FILENO;
 use lister::Listing;
+use varia::FilterBox;
+use varia_calls::Rig;
 use words::Words;
 
 // A line that is longer than this is a bad line.
@@ -16,9 +19,11 @@ const LONGEST: usize = 8192;
 // characters of its line.
 const LONGEST_ANSWER: usize = 16 * LONGEST;
 
-// What the calls so far have made. The bench counts once one was made.
+// What the calls so far have made. The bench and the filter box count once one was made.
 struct Made {
     desk: Desk,
+    filters: FilterBox,
+    has_box: bool,
     bench: Bench,
     has_bench: bool,
     listing: Listing,
@@ -90,6 +95,8 @@ fn nothing() -> Made {
     let bench = none.bench;
     Made {
         desk: desk::fresh(),
+        filters: varia::make(0, 0),
+        has_box: false,
         bench: bench,
         has_bench: false,
         listing: lister::begin(0),
@@ -186,12 +193,15 @@ fn answer_to(line: &[u8], gathered: Gathered, out: &mut [u8]) -> Said {
     Said { made: made, at: 0 }
 }
 
-// Which call it is: those on the desk, those on the bench, those on the receiver, and those that
-// keep nothing.
+// Which call it is: those on the desk, those on the filter box, those on the bench, those on the
+// receiver, and those that keep nothing.
 fn answer(made: Made, line: &[u8], out: &mut [u8]) -> Said {
     let w = words::word(words::start(), line);
     if words::starts(w, line, b"desk.") {
         return answer_desk(made, w, line, out);
+    }
+    if words::starts(w, line, b"varia.") {
+        return answer_varia(made, w, line, out);
     }
     if words::starts(w, line, b"bench.") {
         return answer_bench(made, w, line, out);
@@ -209,11 +219,54 @@ fn answer_desk(made: Made, w: Words, line: &[u8], out: &mut [u8]) -> Said {
     let before = made.desk;
     let told = desk_calls::answer(before, w, line, out);
     let after = told.desk;
+    let heard = told.heard;
+    let filters = heard_by(made.filters, heard);
     let mut next = made;
     next.desk = after;
+    next.filters = filters;
+    next.has_box = made.has_box && !is_anew(heard);
     Said {
         made: next,
         at: told.at,
+    }
+}
+
+// The filter box is told what the desk answered.
+fn heard_by(filters: FilterBox, heard: Heard) -> FilterBox {
+    match heard {
+        Heard::Reply(booking) => varia::told_reply(filters, booking),
+        Heard::Closing(closing) => varia::told_closing(filters, closing),
+        _ => filters,
+    }
+}
+
+// A new desk has no box.
+fn is_anew(heard: Heard) -> bool {
+    match heard {
+        Heard::Anew => true,
+        _ => false,
+    }
+}
+
+fn answer_varia(made: Made, w: Words, line: &[u8], out: &mut [u8]) -> Said {
+    let asked = made.desk;
+    let asking = made.filters;
+    let before = Rig {
+        desk: asked,
+        filters: asking,
+        made: made.has_box,
+    };
+    let filtered = varia_calls::answer(before, w, line, out);
+    let rig = filtered.rig;
+    let desk = rig.desk;
+    let filters = rig.filters;
+    let mut next = made;
+    next.desk = desk;
+    next.filters = filters;
+    next.has_box = rig.made;
+    Said {
+        made: next,
+        at: filtered.at,
     }
 }
 

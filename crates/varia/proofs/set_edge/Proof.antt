@@ -1,0 +1,77 @@
+use borrow.Author.Needs.{needs}
+use Rattle.varia.proofs.Calls.{out-refused, order-refused, not-refused}
+use mathlib.Core.Path.{refl, sym, ap, _∙_}
+use Rattle.varia.proofs.set_edge.Statement.{statement}
+use Rattle.varia.proofs.set_edge.Tie as tie
+use Rattle.varia.proofs.set_edge.Reads as reads
+use Rattle.varia.proofs.set_edge.Lts as lts
+use Rattle.varia.proofs.edge_register.Reads as edge-register-reads
+use Rattle.varia.proofs.is_out.Reads as is-out-reads
+use Rattle.varia.proofs.now_out.Reads as now-out-reads
+use Rattle.varia.proofs.opposite.Reads as opposite-reads
+use Rattle.varia.proofs.out_of_order.Reads as out-of-order-reads
+use Rattle.varia.proofs.passed_on.Reads as passed-on-reads
+use Rattle.varia.proofs.refused.Reads as refused-reads
+use Rattle.varia.proofs.write.Reads as write-reads
+
+is-out-requires : tie.Need-is-out-requires
+is-out-requires c κs = search needs
+
+refused-requires : tie.Need-refused-requires
+refused-requires c κs = search needs
+
+returns : tie.Need-returns
+returns c = rw (out-refused (c .before .before .before .before .args .filters) (c .before .before .before .before .args .pass) (c .before .before .before .before .args .tenths) _ (c .before .before .is-out .ensures) (c .before .if1 .taken)) (c .refused .ensures, refl)
+
+opposite-requires : tie.Need-opposite-requires
+opposite-requires c κs = search needs
+
+out-of-order-requires : tie.Need-out-of-order-requires
+out-of-order-requires c κs = search needs
+
+refused-requires-2 : tie.Need-refused-requires-2
+refused-requires-2 c κs = search needs
+
+returns-2 : tie.Need-returns-2
+returns-2 c =
+    let s = c .before .before .before .before .before .before .before .args in
+    rw (order-refused (s .filters) (s .pass) (s .tenths) _ (c .before .before .before .before .before .is-out .ensures) (c .before .before .before .before .if1 .left) _ (c .before .before .before .opposite .ensures) _ (c .before .before .out-of-order .ensures) (c .before .if2 .taken)) (c .refused2 .ensures, refl)
+
+edge-register-requires : tie.Need-edge-register-requires
+edge-register-requires c κs = search needs
+
+write-requires : tie.Need-write-requires
+write-requires c κs = search needs
+
+now-out-requires : tie.Need-now-out-requires
+now-out-requires c κs = search needs
+
+passed-on-requires : tie.Need-passed-on-requires
+passed-on-requires c κs = search needs
+
+same-length : tie.Need-same-length
+same-length c = search needs
+
+returns-3 : tie.Need-returns-3
+returns-3 c =
+    let s = c .before .before .before .before .before .before .before .before .before .before .before .before .before .args in
+    rw (not-refused (s .filters) (s .pass) (s .tenths) _ (c .before .before .before .before .before .before .before .before .before .before .before .is-out .ensures) (c .before .before .before .before .before .before .before .before .before .before .if1 .left) _ (c .before .before .before .before .before .before .before .before .before .opposite .ensures) _ (c .before .before .before .before .before .before .before .before .out-of-order .ensures) (c .before .before .before .before .before .before .before .if2 .left))
+    (_, rw (c .before .before .before .before .before .before .edge-register .ensures) at (c .before .before .before .before .write .ensures), rw (c .before .now-out .ensures) at (c .passed-on .ensures))
+
+pub set-edge-spec : {M : Type 1} → statement M
+set-edge-spec =
+    tie.close
+    (tie.spec
+    is-out-requires
+    refused-requires
+    returns
+    opposite-requires
+    out-of-order-requires
+    refused-requires-2
+    returns-2
+    edge-register-requires
+    write-requires
+    now-out-requires
+    passed-on-requires
+    same-length
+    returns-3)

@@ -1,0 +1,3 @@
+pub mod Box
+pub mod Ask
+pub mod Display
