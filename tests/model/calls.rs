@@ -1,4 +1,4 @@
-//! Call scripts: a line is parsed, run on the desk, the bench or the receiver, and its answer formatted.
+//! Call scripts: a line is parsed, run on the desk, the box, the bench or the receiver, and its answer formatted.
 
 use crate::bench::{Bench, Register};
 use crate::catalogue;
@@ -7,6 +7,7 @@ use crate::receiver::{Fed, Receiver};
 use crate::remainder::remainder;
 use crate::telegram::{self, Message, No};
 use crate::values;
+use crate::varia::{self, Closing, Edge, Out, Shown, Varia, Wish};
 
 /// The longest line, its newline not counted, that is still a call.
 pub const LONGEST_LINE: usize = 8192;
@@ -29,6 +30,8 @@ enum Call {
     DeskCancel { job: u32, address: u8, clock: u32 },
     DeskExpire { clock: u32 },
     DeskDump,
+    VariaNew { job: u32, module: u8 },
+    OnVaria(VariaCall),
     RxNew { place: u64 },
     RxFeed { chunk: Vec<u8> },
     RxEnd,
@@ -39,6 +42,14 @@ enum BenchCall {
     Add { register: u8, kind: u8, rights: u8 },
     Set { register: u8, value: i128 },
     Tele { frame: Vec<u8>, buf: Vec<u8> },
+    Dump,
+}
+
+/// A call that needs a box.
+enum VariaCall {
+    Ask { wish: Wish, wait: u32, clock: u32, buf: Vec<u8> },
+    Display { fresh: Vec<u8>, kept: Vec<u8> },
+    Moving { status: u16 },
     Dump,
 }
 
@@ -59,6 +70,11 @@ impl<'a> Words<'a> {
     /// The next word as a byte's number, 0 to 255.
     fn byte(&mut self) -> Option<u8> {
         u8::try_from(decimal(self.word()?)?).ok()
+    }
+
+    /// The next word as a 16-bit number: a value of the box, or its module's status.
+    fn short_number(&mut self) -> Option<u16> {
+        u16::try_from(decimal(self.word()?)?).ok()
     }
 
     /// The next word as a 32-bit number.
@@ -101,7 +117,7 @@ fn decimal(word: &[u8]) -> Option<i128> {
 }
 
 /// Bytes from lower-case hex of an even number of digits, `-` for none.
-fn unhex(word: &[u8]) -> Option<Vec<u8>> {
+pub fn unhex(word: &[u8]) -> Option<Vec<u8>> {
     if word == b"-" {
         return Some(Vec::new());
     }
@@ -158,6 +174,15 @@ fn parse_call(name: &[u8], words: &mut Words) -> Option<Call> {
         b"desk.cancel" => Call::DeskCancel { job: words.number()?, address: words.byte()?, clock: words.number()? },
         b"desk.expire" => Call::DeskExpire { clock: words.number()? },
         b"desk.dump" => Call::DeskDump,
+        b"varia.new" => Call::VariaNew { job: words.number()?, module: words.byte()? },
+        b"varia.short" => parse_wish(Wish::Set(Edge::Short, words.short_number()?), words)?,
+        b"varia.long" => parse_wish(Wish::Set(Edge::Long, words.short_number()?), words)?,
+        b"varia.att" => parse_wish(Wish::Attenuate(words.short_number()?), words)?,
+        b"varia.monitor" => parse_wish(Wish::Monitor, words)?,
+        b"varia.status" => parse_wish(Wish::Status, words)?,
+        b"varia.display" => Call::OnVaria(VariaCall::Display { fresh: words.bytes()?, kept: words.bytes()? }),
+        b"varia.moving" => Call::OnVaria(VariaCall::Moving { status: words.short_number()? }),
+        b"varia.dump" => Call::OnVaria(VariaCall::Dump),
         b"rx.new" => Call::RxNew { place: words.long_number()? },
         b"rx.feed" => Call::RxFeed { chunk: words.bytes()? },
         b"rx.end" => Call::RxEnd,
@@ -178,17 +203,24 @@ fn parse_request(words: &mut Words) -> Option<Request> {
     Some(Request { job, module, type_no, register, data, wait, clock })
 }
 
-/// What the calls work on: the desk, the bench once there is one, and the receiver.
+/// WAIT CLOCK BUF of a wish.
+fn parse_wish(wish: Wish, words: &mut Words) -> Option<Call> {
+    let (wait, clock) = (words.number()?, words.number()?);
+    Some(Call::OnVaria(VariaCall::Ask { wish, wait, clock, buf: words.bytes()? }))
+}
+
+/// What the calls work on: the desk, the box and the bench once there is one, and the receiver.
 pub struct Rehearsal {
     pub desk: Desk,
+    pub varia: Option<Varia>,
     pub bench: Option<Bench>,
     pub receiver: Receiver,
 }
 
 impl Rehearsal {
-    /// A fresh desk, no bench, and a fresh receiver at place 0.
+    /// A fresh desk, no box, no bench, and a fresh receiver at place 0.
     pub fn new() -> Rehearsal {
-        Rehearsal { desk: Desk::new(), bench: None, receiver: Receiver::new(0) }
+        Rehearsal { desk: Desk::new(), varia: None, bench: None, receiver: Receiver::new(0) }
     }
 
     /// The answer line to a call line, both without their newline.
@@ -219,12 +251,15 @@ impl Rehearsal {
             },
             Call::DeskNew => plain(Ok(self.new_desk())),
             Call::DeskOpen { request, buf } => lent(buf, |room| self.desk.open(&request, room).map(open_fields)),
-            Call::DeskReply { frame, buf } => lent(buf, |room| self.desk.reply(&frame, room).map(reply_fields)),
-            Call::DeskCancel { job, address, clock } => {
-                plain(self.desk.cancel(job, address, clock).map(|()| closed_fields((job, address))))
-            }
-            Call::DeskExpire { clock } => plain(self.desk.expire(clock).map(closed_fields)),
+            Call::DeskReply { frame, buf } => lent(buf, |room| self.reply(&frame, room).map(reply_fields)),
+            Call::DeskCancel { job, address, clock } => plain(self.cancel(job, address, clock).map(closed_fields)),
+            Call::DeskExpire { clock } => plain(self.expire(clock).map(closed_fields)),
             Call::DeskDump => plain(Ok(desk_fields(&self.desk))),
+            Call::VariaNew { job, module } => plain(Ok(self.new_varia(job, module))),
+            Call::OnVaria(call) => match &mut self.varia {
+                Some(varia) => run_on_varia(varia, &mut self.desk, call),
+                None => "no box".to_string(),
+            },
             Call::RxNew { place } => plain(Ok(self.new_receiver(place))),
             Call::RxFeed { chunk } => fed(self.receiver.feed(&chunk)),
             Call::RxEnd => plain(Ok(format!("text={}", self.receiver.rest().replace('\n', "\\n")))),
@@ -237,10 +272,45 @@ impl Rehearsal {
         Ok(String::new())
     }
 
-    /// A fresh desk takes the place of the one there was; no fields are answered.
+    /// A fresh desk takes the place of the one there was, and there is no box; no fields are answered.
     fn new_desk(&mut self) -> String {
         self.desk = Desk::new();
+        self.varia = None;
         String::new()
+    }
+
+    /// A fresh box takes the place of the one there was, if any; no fields are answered.
+    fn new_varia(&mut self, job: u32, module: u8) -> String {
+        self.varia = Some(Varia::new(job, module));
+        String::new()
+    }
+
+    /// Tells the box, if there is one, how the ticket on an address was closed.
+    fn tell(&mut self, address: u8, closing: Closing) {
+        if let Some(varia) = &mut self.varia {
+            varia.hear(address, closing);
+        }
+    }
+
+    /// Books a reply at the desk and tells the box.
+    fn reply(&mut self, frame: &[u8], room: usize) -> Result<(u32, Message), No> {
+        let (job, reply) = self.desk.reply(frame, room)?;
+        self.tell(reply.dest, Closing::Booked(reply.type_no));
+        Ok((job, reply))
+    }
+
+    /// Cancels a ticket at the desk and tells the box.
+    fn cancel(&mut self, job: u32, address: u8, clock: u32) -> Result<(u32, u8), No> {
+        self.desk.cancel(job, address, clock)?;
+        self.tell(address, Closing::Lost);
+        Ok((job, address))
+    }
+
+    /// Lets a ticket expire at the desk and tells the box.
+    fn expire(&mut self, clock: u32) -> Result<(u32, u8), No> {
+        let (job, address) = self.desk.expire(clock)?;
+        self.tell(address, Closing::Lost);
+        Ok((job, address))
     }
 
     /// A fresh receiver takes the place of the one there was; no fields are answered.
@@ -257,6 +327,18 @@ fn run_on_bench(bench: &mut Bench, call: BenchCall) -> String {
         BenchCall::Set { register, value } => plain(bench.set(register, value).map(|()| String::new())),
         BenchCall::Tele { frame, buf } => lent(buf, |room| bench.tele(&frame, room).map(length_field)),
         BenchCall::Dump => plain(Ok(bench_fields(bench))),
+    }
+}
+
+/// Runs a call on the box there is, above its desk.
+fn run_on_varia(varia: &mut Varia, desk: &mut Desk, call: VariaCall) -> String {
+    match call {
+        VariaCall::Ask { wish, wait, clock, buf } => {
+            lent(buf, |room| varia.ask(desk, wish, wait, clock, room).map(open_fields))
+        }
+        VariaCall::Display { fresh, kept } => plain(varia::display(&fresh, &kept).map(display_fields)),
+        VariaCall::Moving { status } => plain(Ok(format!("moving={}", u8::from(varia::is_moving(status))))),
+        VariaCall::Dump => plain(Ok(varia_fields(varia))),
     }
 }
 
@@ -336,6 +418,23 @@ fn desk_fields(desk: &Desk) -> String {
     let tickets = list(desk.tickets.iter().map(shown).collect());
     let closed = list(desk.closed.iter().map(|(address, clock)| format!("{address}:{clock}")).collect());
     format!("turn={} tickets={tickets} closed={closed}", desk.turn)
+}
+
+/// Which data are shown, and their two bytes.
+fn display_fields((shown, two): (Shown, &[u8])) -> String {
+    let which = match shown {
+        Shown::Fresh => "fresh",
+        Shown::Kept => "kept",
+    };
+    format!("which={which} two={}", hex(two))
+}
+
+/// The box's edges, `?` for unknown, and its edge request that is out, `-` for none.
+fn varia_fields(varia: &Varia) -> String {
+    let known = |edge: Option<u16>| edge.map_or("?".to_string(), |value| value.to_string());
+    let shown = |Out { address, edge, value }: Out| format!("{address}:{}:{value}", edge.name());
+    let out = varia.out.map_or("-".to_string(), shown);
+    format!("short={} long={} out={out}", known(varia.short), known(varia.long))
 }
 
 /// The entries of a list parted by commas, `-` for none.

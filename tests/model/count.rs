@@ -1,12 +1,13 @@
 //! How often each call was answered in each way, and whether every way occurred.
 
 use crate::calls::lines;
+use crate::filters::Filters;
 use crate::rests::Rests;
 use crate::telegram::No;
 use std::collections::BTreeMap;
 
 /// Each call with the numbers its order lists.
-const ORDERS: [(&str, &[No]); 20] = [
+const ORDERS: [(&str, &[No]); 29] = [
     ("rem", &[]),
     ("read", &[1, 2, 3, 4, 5, 6, 7, 8, 9]),
     ("write", &[5, 8, 9, 6]),
@@ -24,6 +25,15 @@ const ORDERS: [(&str, &[No]); 20] = [
     ("desk.cancel", &[21]),
     ("desk.expire", &[22]),
     ("desk.dump", &[]),
+    ("varia.new", &[]),
+    ("varia.short", &[59, 63, 10, 11, 14, 15, 16]),
+    ("varia.long", &[59, 63, 10, 11, 14, 15, 16]),
+    ("varia.att", &[62, 10, 11, 14, 15, 16]),
+    ("varia.monitor", &[10, 11, 14, 15, 16]),
+    ("varia.status", &[10, 11, 14, 15, 16]),
+    ("varia.display", &[64]),
+    ("varia.moving", &[]),
+    ("varia.dump", &[]),
     ("rx.new", &[]),
     ("rx.feed", &[60]),
     ("rx.end", &[]),
@@ -40,6 +50,7 @@ enum Way {
     No(No),
     BadLine,
     NoBench,
+    NoBox,
     Unknown,
 }
 
@@ -58,6 +69,7 @@ fn way(answer: &[u8]) -> Way {
     match words[..] {
         ["bad", "line"] => Way::BadLine,
         ["no", "bench"] => Way::NoBench,
+        ["no", "box"] => Way::NoBox,
         ["ok", ..] => Way::Ok,
         ["no", number, ..] => number.parse().map_or(Way::Unknown, Way::No),
         _ => Way::Unknown,
@@ -79,11 +91,14 @@ pub fn count(script: &[u8], answers: &[u8]) -> (String, bool) {
     complaints.extend(never.map(|(line, _)| format!("over chunk borders: {line} never occurred")));
     let rests = Rests::of(&calls, &answers);
     complaints.extend(rests.missing());
+    let filters = Filters::of(&calls, &answers);
+    complaints.extend(filters.missing());
     if calls.len() != answers.len() {
         complaints.push(format!("{} calls but {} answers", calls.len(), answers.len()));
     }
     let told: String = complaints.iter().map(|line| format!("{line}\n")).collect();
-    (table(&counts) + &borders_line(over_borders) + &rests.lines() + &told, complaints.is_empty())
+    let met = borders_line(over_borders) + &rests.lines() + &filters.lines();
+    (table(&counts) + &met + &told, complaints.is_empty())
 }
 
 /// What calls and answers tell of the chunks: the place of the next byte, where the latest chunk of any bytes began,
@@ -139,6 +154,7 @@ impl Chunks {
 fn missing(counts: &Counts, name: &'static str, order: &[No]) -> Vec<String> {
     let mut wanted = vec![Way::Ok];
     wanted.extend(order.iter().map(|no| Way::No(*no)));
+    wanted.extend([Way::NoBench, Way::NoBox].into_iter().filter(|way| is_listed(name, *way)));
     wanted.retain(|way| !counts.contains_key(&(name, *way)));
     wanted.iter().map(|way| format!("{name}: {} never occurred", words(*way))).collect()
 }
@@ -148,6 +164,7 @@ fn is_listed(name: &str, way: Way) -> bool {
     match way {
         Way::BadLine => true,
         Way::NoBench => name.starts_with("bench.") && name != "bench.new",
+        Way::NoBox => name.starts_with("varia.") && name != "varia.new",
         Way::Ok => name != NO_CALL,
         Way::No(no) => ORDERS.iter().any(|(known, order)| *known == name && order.contains(&no)),
         Way::Unknown => false,
@@ -166,17 +183,19 @@ fn words(way: Way) -> String {
         Way::No(no) => format!("no {no}"),
         Way::BadLine => "bad line".to_string(),
         Way::NoBench => "no bench".to_string(),
+        Way::NoBox => "no box".to_string(),
         Way::Unknown => "an unknown answer".to_string(),
     }
 }
 
-/// One line for each call: ok, bad line, no bench, and then each refusal number with its count.
+/// One line for each call: ok, bad line, no bench, no box, and then each refusal number with its count.
 fn table(counts: &Counts) -> String {
-    let mut text = format!("{:<12}{:>7}{:>10}{:>10}  refusals\n", "call", "ok", "bad line", "no bench");
+    let mut text = format!("{:<14}{:>7}{:>10}{:>10}{:>8}  refusals\n", "call", "ok", "bad line", "no bench", "no box");
     for name in ORDERS.iter().map(|(name, _)| *name).chain([NO_CALL]) {
         let times = |way| counts.get(&(name, way)).copied().unwrap_or(0);
-        let (ok, bad_line, no_bench) = (times(Way::Ok), times(Way::BadLine), times(Way::NoBench));
-        text += &format!("{name:<12}{ok:>7}{bad_line:>10}{no_bench:>10}{}\n", refusals(counts, name));
+        let (ok, bad_line) = (times(Way::Ok), times(Way::BadLine));
+        let (no_bench, no_box) = (times(Way::NoBench), times(Way::NoBox));
+        text += &format!("{name:<14}{ok:>7}{bad_line:>10}{no_bench:>10}{no_box:>8}{}\n", refusals(counts, name));
     }
     text
 }

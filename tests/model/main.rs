@@ -9,6 +9,7 @@ mod count;
 mod cuts;
 mod desk;
 mod faults;
+mod filters;
 mod listing;
 mod random;
 mod receiver;
@@ -17,6 +18,7 @@ mod rests;
 mod script;
 mod telegram;
 mod values;
+mod varia;
 mod vectors;
 
 use std::io::{self, Read, Write};

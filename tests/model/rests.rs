@@ -82,20 +82,22 @@ impl Rests {
         never.map(|(head, thing)| format!("{head}: {thing} never occurred")).collect()
     }
 
-    /// Hears of a call and its answer; only calls on the desk have something to tell.
+    /// Hears of a call and its answer; only calls on the desk, the box's too, have something to tell.
     fn hear(&mut self, call: &str, answer: &str) {
-        if answer == "bad line" {
+        if answer == "bad line" || answer == "no box" {
             return;
         }
         let (words, address) = (call.split(' ').collect::<Vec<&str>>(), field(answer, "address="));
         let is_told = |number| answer.starts_with(&format!("no {number} "));
-        if let ["desk.open", .., clock, _] | ["desk.cancel", _, _, clock] | ["desk.expire", clock] = words[..] {
-            self.clock = parsed(clock);
+        match words[..] {
+            [name, .., clock, _] if opens(name) => self.clock = parsed(clock),
+            ["desk.cancel", _, _, clock] | ["desk.expire", clock] => self.clock = parsed(clock),
+            _ => (),
         }
         match (&words[..], address) {
             (["desk.new"], _) => self.forget(),
-            (["desk.open", ..], Some(address)) => self.opened(address),
-            (["desk.open", ..], None) if is_told(15) => self.all_taken(),
+            ([name, ..], Some(address)) if opens(name) => self.opened(address),
+            ([name, ..], None) if opens(name) && is_told(15) => self.all_taken(),
             (["desk.cancel", ..], Some(address)) => self.closed("cancelled", address),
             (["desk.expire", ..], Some(address)) => self.closed("expired", address),
             (["desk.reply", ..], Some(address)) => self.booked(address),
@@ -196,6 +198,11 @@ impl Rests {
             self.count("17", "where 61 was told");
         }
     }
+}
+
+/// Whether a call of this name opens a ticket: the desk's own, or one of the box's.
+fn opens(name: &str) -> bool {
+    ["desk.open", "varia.short", "varia.long", "varia.att", "varia.monitor", "varia.status"].contains(&name)
 }
 
 /// The number after this name in an answer.

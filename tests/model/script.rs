@@ -7,11 +7,12 @@ mod receiver_walk;
 mod rest_walk;
 mod rough;
 mod telegrams;
+mod varia_walk;
 
 use crate::calls::Rehearsal;
 use crate::random::Random;
 
-/// A script under way: its lines and the desk, bench and receiver they have led to.
+/// A script under way: its lines and the desk, box, bench and receiver they have led to.
 pub struct Script {
     random: Random,
     rehearsal: Rehearsal,
@@ -57,18 +58,33 @@ const RECEIVER_ROUND: [Section; 5] = [
     receiver_walk::last_places,
 ];
 
+/// The sections on the filter box, after those on the receiver, with a generator of their own as well.
+const VARIA_ROUND: [Section; 10] = [
+    rough::varia_lines,
+    varia_walk::endings,
+    varia_walk::order,
+    varia_walk::blocked,
+    varia_walk::full_desk,
+    varia_walk::refused,
+    varia_walk::anew,
+    varia_walk::displays,
+    varia_walk::mixed,
+    varia_walk::at_the_bench,
+];
+
 /// The script of a seed, of so many lines, each ended by one newline.
 pub fn write(seed: u64, calls: usize) -> Vec<u8> {
     let mut script = Script { random: Random::new(seed), rehearsal: Rehearsal::new(), lines: Vec::new() };
     bench_walk::no_bench_yet(&mut script);
     desk_walk::no_desk_yet(&mut script);
     receiver_walk::no_receiver_yet(&mut script);
+    varia_walk::no_box_yet(&mut script);
     let mut receiver_random = Random::new(!seed);
+    let mut varia_random = Random::new(seed.rotate_left(32) ^ 0x5641_5249_4100);
     while script.lines.len() < calls {
         script.round(ROUND);
-        std::mem::swap(&mut script.random, &mut receiver_random);
-        script.round(RECEIVER_ROUND);
-        std::mem::swap(&mut script.random, &mut receiver_random);
+        script.round_with(&mut receiver_random, RECEIVER_ROUND);
+        script.round_with(&mut varia_random, VARIA_ROUND);
     }
     script.lines.truncate(calls);
     script.lines.iter().flat_map(|line| [line.as_slice(), b"\n"].concat()).collect()
@@ -81,10 +97,22 @@ impl Script {
         sections.iter().for_each(|section| section(self));
     }
 
+    /// The same with a generator of their own.
+    fn round_with<const N: usize>(&mut self, random: &mut Random, sections: [Section; N]) {
+        std::mem::swap(&mut self.random, random);
+        self.round(sections);
+        std::mem::swap(&mut self.random, random);
+    }
+
     /// Adds a call line to the script and runs it on the rehearsal.
     fn call(&mut self, line: impl AsRef<[u8]>) {
-        self.rehearsal.answer(line.as_ref());
+        self.answer(line);
+    }
+
+    /// The same, and hands the answer over.
+    fn answer(&mut self, line: impl AsRef<[u8]>) -> String {
         self.lines.push(line.as_ref().to_vec());
+        self.rehearsal.answer(line.as_ref())
     }
 }
 

@@ -58,6 +58,31 @@ ok turn=162 tickets=- closed=161:40
 ok address=162 n=8 buf=0d0fa20466c7b60a00000000
 ";
 
+/// The part of the same example that is about the filter box, after that about rests.
+const BOX_CALLS: &str = "\
+varia.new 9 16
+varia.short 6000 500 200 00000000000000000000000000000000
+varia.long 7000 500 200 00000000000000000000000000000000
+varia.att 1001 500 200 0000
+varia.display 3412 -
+varia.display 01 3412
+varia.display 01 02
+varia.moving 4096
+varia.dump
+";
+
+const BOX_ANSWERS: &str = "\
+ok
+ok address=163 n=11 buf=0d10a305337017945e4d0a0000000000
+no 59 buf=00000000000000000000000000000000
+no 62 buf=0000
+ok which=fresh two=3412
+ok which=kept two=3412
+no 64
+ok moving=1
+ok short=? long=? out=163:short:6000
+";
+
 const RECEIVER_CALLS: &str = "\
 rx.new 0
 rx.feed 0da20f030d
@@ -89,6 +114,8 @@ pub fn report() -> (String, bool) {
         manual_examples(),
         both_sides(),
         rests(),
+        filter_boxes(),
+        filter_edges(),
         listings(),
         long_frames(),
         receivers(),
@@ -231,6 +258,68 @@ fn rests() -> Vec<Check> {
         last("1000 ms over the wrap", at_the_wrap, 994, "ok address=200 "),
         last("999 ms after an expiry", "desk.expire 7000", 7999, "no 15 "),
         last("1000 ms after an expiry", "desk.expire 7000", 8000, "ok address=161 "),
+    ]
+}
+
+/// The box's part of the call scripts' example, its limits on both sides, and what needs a box.
+fn filter_boxes() -> Vec<Check> {
+    let on_a_box =
+        |name, call: &str, want: &str| calls(name, &format!("varia.new 9 16\n{call}"), &format!("ok\n{want}"));
+    let moving =
+        |name, status: u16, want: u8| on_a_box(name, &format!("varia.moving {status}"), &format!("ok moving={want}"));
+    vec![
+        calls(
+            "the call scripts' example of a filter box",
+            &[LATE_CALLS, BOX_CALLS].concat(),
+            &[LATE_ANSWERS, BOX_ANSWERS].concat(),
+        ),
+        on_a_box("attenuation 1000", "varia.att 1000 1 0 a1", "no 16 buf=a1"),
+        on_a_box("attenuation 1001, ahead of the desk's", "varia.att 1001 0 0 a1", "no 62 buf=a1"),
+        on_a_box("no display of three bytes", "varia.display 010203 010203", "no 64"),
+        on_a_box("two bytes on both sides", "varia.display 0102 0304", "ok which=fresh two=0102"),
+        on_a_box("three fresh bytes", "varia.display 010203 0304", "ok which=kept two=0304"),
+        on_a_box("a status that is no 16-bit number", "varia.moving 65536", "bad line"),
+        moving("bit 11", 1 << 11, 0),
+        moving("bit 12", 1 << 12, 1),
+        moving("bit 13", 1 << 13, 1),
+        moving("bit 14", 1 << 14, 1),
+        moving("bit 15", 1 << 15, 0),
+        moving("all bits but 12 to 14", 0x8FFF, 0),
+        calls("no box", "varia.dump\nvaria.moving 0\nvaria.display 3412 -", "no box\nno box\nno box"),
+        calls("no box on a fresh desk", "varia.new 9 16\ndesk.new\nvaria.dump", "ok\nok\nno box"),
+    ]
+}
+
+/// What becomes of a short-pass edge of 600.0 nm, acknowledged, that 700.0 nm is asked for after; and the order of the
+/// edges.
+fn filter_edges() -> Vec<Check> {
+    let ask = |edge: &str, value: u16| format!("varia.{edge} {value} 500 200 {}\n", "a1".repeat(20));
+    let reply = |address: u8, type_no: u8, register: u8| {
+        let message = Message { dest: address, source: 16, type_no, register, data: Vec::new() };
+        format!("desk.reply {} -\n", hex(&message.telegram()))
+    };
+    let known = ["varia.new 9 16\n".to_string(), ask("short", 6000), reply(161, 3, 51)].concat();
+    let last = |name, then: &str, want: &str| {
+        let said = answers((known.clone() + then).as_bytes());
+        let got = said.lines().last().unwrap_or("").chars().take(want.len()).collect();
+        Check { name, got, want: want.to_string() }
+    };
+    let dumped = |name, end: &str, want: &str| last(name, &(ask("short", 7000) + end + "varia.dump"), want);
+    vec![
+        dumped("an edge request is out", "", "ok short=6000 long=? out=162:short:7000"),
+        dumped("an ack", &reply(162, 3, 51), "ok short=7000 long=? out=-"),
+        dumped("an ack without the register", &reply(162, 3, 0), "ok short=7000 long=? out=-"),
+        dumped("a nack", &reply(162, 0, 51), "ok short=6000 long=? out=-"),
+        dumped("a check error", &reply(162, 1, 51), "ok short=6000 long=? out=-"),
+        dumped("busy", &reply(162, 2, 51), "ok short=6000 long=? out=-"),
+        dumped("a cancel", "desk.cancel 9 162 300\n", "ok short=? long=? out=-"),
+        dumped("an expiry", "desk.expire 700\n", "ok short=? long=? out=-"),
+        dumped("an ack of another register", &reply(162, 3, 52), "ok short=6000 long=? out=162:short:7000"),
+        dumped("another job's cancel", "desk.cancel 8 162 300\n", "ok short=6000 long=? out=162:short:7000"),
+        last("equal edges", &ask("long", 6000), "no 63 "),
+        last("edges one apart", &ask("long", 5999), "ok address=162 "),
+        last("59 ahead of 63", &(ask("short", 7000) + &ask("long", 6000)), "no 59 "),
+        last("an edge against itself", &ask("short", 1), "ok address=162 "),
     ]
 }
 

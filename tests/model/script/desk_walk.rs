@@ -6,6 +6,7 @@ use crate::desk::{Desk, Request, Ticket, FIRST_HOST, HOSTS, LAST_HOST};
 use crate::faults::{data, flip_within_16, length, spoil};
 use crate::random::Random;
 use crate::telegram::{frame, Message, No, MOST_DATA};
+use crate::varia::Varia;
 
 /// A walk under way: the script, the clock on the wall, and the last reply that was offered rightly.
 pub struct Walk<'a> {
@@ -101,13 +102,18 @@ impl<'a> Walk<'a> {
     /// A walk on a desk that was filled to 95 tickets, a refused opening among them now and then.
     pub fn full(script: &'a mut Script) -> Walk<'a> {
         let mut walk = Walk::new(script);
-        while walk.desk().tickets.len() < usize::from(HOSTS) {
-            walk.open();
-            if walk.random().one_in(12) {
-                walk.any_refused_open();
+        walk.fill();
+        walk
+    }
+
+    /// Fills the desk to 95 tickets, a refused opening among them now and then. No address may rest.
+    pub fn fill(&mut self) {
+        while self.desk().tickets.len() < usize::from(HOSTS) {
+            self.open();
+            if self.random().one_in(12) {
+                self.any_refused_open();
             }
         }
-        walk
     }
 
     /// The generator of the script.
@@ -118,6 +124,16 @@ impl<'a> Walk<'a> {
     /// The desk as the script has it now.
     pub fn desk(&self) -> &Desk {
         &self.script.rehearsal.desk
+    }
+
+    /// The box as the script has it now, if there is one.
+    pub fn varia(&self) -> Option<&Varia> {
+        self.script.rehearsal.varia.as_ref()
+    }
+
+    /// Adds a line of any sort and hands its answer over.
+    pub fn add(&mut self, line: impl AsRef<[u8]>) -> String {
+        self.script.answer(line)
     }
 
     /// Adds the desk's state to the script.
@@ -137,7 +153,7 @@ impl<'a> Walk<'a> {
     }
 
     /// A step of any sort.
-    fn step(&mut self) {
+    pub fn step(&mut self) {
         self.tick();
         match self.random().below(32) {
             0..=9 => self.open(),
@@ -181,7 +197,7 @@ impl<'a> Walk<'a> {
     }
 
     /// The length of the telegram the desk would write, or of a short one where it would refuse.
-    fn telegram_length(&self, request: &Request) -> usize {
+    pub fn telegram_length(&self, request: &Request) -> usize {
         self.desk().clone().open(request, usize::MAX).map_or(8, |(_, telegram)| telegram.len())
     }
 
@@ -280,11 +296,16 @@ impl<'a> Walk<'a> {
             None => return self.open(),
         };
         let row = self.random().pick(&[17, 18, 19, 20, 20]);
-        let mut reply = self.fitting_reply(address, &ticket);
+        self.misfit_of(address, &ticket, row);
+    }
+
+    /// The same by this row, and with this ticket.
+    pub fn misfit_of(&mut self, address: u8, ticket: &Ticket, row: No) {
+        let mut reply = self.fitting_reply(address, ticket);
         let free = self.address_without_ticket();
         let random = self.random();
         for no in (row..=20).filter(|no| *no == row || random.one_in(3)).collect::<Vec<No>>() {
-            spoil_reply(random, &mut reply, &ticket, free, no);
+            spoil_reply(random, &mut reply, ticket, free, no);
         }
         let room = if random.one_in(8) { room(random, reply.data.len()) } else { enough(random, reply.data.len()) };
         self.reply_with(&reply.telegram(), room);

@@ -29,6 +29,19 @@ const SAMPLES: [&str; 17] = [
 /// The same of the calls on the receiver.
 const RECEIVER_SAMPLES: [&str; 4] = ["rx.new 9", "rx.feed 0da20f0330482f0a0d", "rx.feed 0a0d05", "rx.end"];
 
+/// The same of the calls on the filter box.
+const VARIA_SAMPLES: [&str; 9] = [
+    "varia.new 9 16",
+    "varia.short 6000 500 200 a1a2a3a4a5a6a7a8a9aaabacad",
+    "varia.long 5000 500 200 a1a2a3a4a5a6a7a8a9aaabacad",
+    "varia.att 1000 500 200 a1a2a3a4a5a6a7a8a9aaabacad",
+    "varia.monitor 500 200 a1a2a3a4a5a6a7a8a9aaabacad",
+    "varia.status 500 200 a1a2a3a4a5a6a7a8a9aaabacad",
+    "varia.display 3412 7856",
+    "varia.moving 4096",
+    "varia.dump",
+];
+
 /// Words that are wrong in some places or in all of them.
 const ODD_WORDS: [&str; 32] = [
     "",
@@ -105,6 +118,34 @@ const NO_RECEIVER_CALLS: [&str; 12] = [
     "rx.new 18446744073709551616",
 ];
 
+/// Lines that are no calls on the filter box, and numbers one past their type.
+const NO_VARIA_CALLS: [&str; 24] = [
+    "varia",
+    "varia.",
+    "varia.new",
+    "varia.new 9",
+    "varia.new 9 256",
+    "varia.new 4294967296 16",
+    "varia.open 9 16",
+    "varia.short 65536 500 200 a1a2a3a4a5a6a7a8a9aaabacad",
+    "varia.long 65536 500 200 a1a2a3a4a5a6a7a8a9aaabacad",
+    "varia.long -1 500 200 a1a2a3a4a5a6a7a8a9aaabacad",
+    "varia.att 65536 500 200 a1a2a3a4a5a6a7a8a9aaabacad",
+    "varia.att 1000 4294967296 200 a1a2a3a4a5a6a7a8a9aaabacad",
+    "varia.att 1000 500 4294967296 a1a2a3a4a5a6a7a8a9aaabacad",
+    "varia.monitor 1000 500 200 a1a2a3a4a5a6a7a8a9aaabacad",
+    "varia.monitor 500 200",
+    "varia.status 4294967296 200 a1a2a3a4a5a6a7a8a9aaabacad",
+    "varia.status 500 200 ",
+    "varia.display 3412",
+    "varia.display 341 -",
+    "varia.display - - -",
+    "varia.moving 65536",
+    "varia.moving -1",
+    "varia.moving",
+    "varia.dump 0",
+];
+
 /// Every call with numbers from all over their types.
 pub fn any_numbers(script: &mut Script) {
     for _ in 0..9 {
@@ -176,6 +217,48 @@ fn longest_receiver_lines(script: &mut Script) {
         script.call(format!("rx.feed {}", "0d".repeat(fed)));
     }
     script.call("rx.end");
+}
+
+/// The calls on the filter box with any words, then lines that are none of them, or nearly, and the longest lines.
+pub fn varia_lines(script: &mut Script) {
+    for _ in 0..6 {
+        let mut order: Vec<usize> = (0..9).collect();
+        script.random.shuffle(&mut order);
+        for which in order {
+            let line = any_varia_call(&mut script.random, which);
+            script.call(line);
+        }
+    }
+    for sample in VARIA_SAMPLES.iter().cycle().take(9 * 6) {
+        let line = amiss(&mut script.random, sample);
+        script.call(line);
+    }
+    for line in NO_VARIA_CALLS {
+        script.call(line);
+    }
+    for length in [LONGEST_LINE - 1, LONGEST_LINE, LONGEST_LINE + 1] {
+        let digits = length - "varia.moving ".len();
+        script.call(format!("varia.moving {:0digits$}", 4096));
+    }
+    script.call("varia.dump");
+}
+
+/// A call on the filter box with words of any value.
+fn any_varia_call(random: &mut Random, which: usize) -> String {
+    let (job, module, number) = (random.word(), random.byte(), random.word() as u16);
+    let (wait, clock) = (random.word() % 70000, random.word());
+    let (bytes, more, buf) = (any_bytes(random), any_bytes(random), lent(random));
+    match which {
+        0 => format!("varia.new {job} {module}"),
+        1 => format!("varia.short {number} {wait} {clock} {buf}"),
+        2 => format!("varia.long {number} {wait} {clock} {buf}"),
+        3 => format!("varia.att {} {wait} {clock} {buf}", number % 2000),
+        4 => format!("varia.monitor {wait} {clock} {buf}"),
+        5 => format!("varia.status {wait} {clock} {buf}"),
+        6 => format!("varia.display {bytes} {more}"),
+        7 => format!("varia.moving {number}"),
+        _ => "varia.dump".to_string(),
+    }
 }
 
 /// Up to 40 bytes of any value, as hex.
