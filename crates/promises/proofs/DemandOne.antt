@@ -32,6 +32,7 @@ pub use Rattle.request.proofs.Laws.{asks-settled}
 pub use Rattle.desk.proofs.Laws.{opens-settled, replies-settled, cancels-settled, expires-settled}
 pub use Rattle.receiver.proofs.Laws.{steps-settled}
 pub use Rattle.lister.proofs.Laws.{lists-settled}
+pub use Rattle.varia.proofs.Laws.{sets-settled as edge-sets-settled, attenuates-settled, reads-monitor-settled, reads-status-settled, displays-settled}
 pub use Rattle.kamzhor.proofs.Laws.{gives-frame-settled, gives-value-settled, gives-step-settled}
 -- ---- "refused with the number listed in the specification, by its order of checks": that number exactly when its row holds and no earlier
 -- one does, and done exactly when no row holds
@@ -54,6 +55,9 @@ pub use Rattle.catalogue.proofs.Laws.{find-exactly}
 -- row 60
 pub use Rattle.receiver.proofs.Laws.{step-exactly}
 pub use Rattle.lister.proofs.Laws.{list-exactly}
+-- rows 59, 62 and 63, ahead of the desk's, and 64
+pub use Rattle.varia.proofs.Ranking.{set-exactly as edge-set-exactly, attenuate-exactly, monitor-exactly, status-exactly, display-exactly}
+pub use Rattle.varia.proofs.Ranking.{set-short-plainly, set-long-plainly, attenuate-plainly, display-plainly}
 -- the calls `number` give the numbers that these laws tell
 pub use Rattle.telegram.proofs.Laws.{number-is}
 pub use Rattle.request.proofs.Laws.{number-is as request-number-is}
@@ -63,6 +67,7 @@ pub use Rattle.bench.proofs.Laws.{number-is as bench-number-is}
 pub use Rattle.values.proofs.Laws.{number-is as value-number-is}
 pub use Rattle.catalogue.proofs.Laws.{number-is as catalogue-number-is}
 pub use Rattle.receiver.proofs.Laws.{number-is as receiver-number-is}
+pub use Rattle.varia.proofs.Laws.{number-is as box-number-is}
 -- the same numbers in C
 pub use Rattle.kamzhor.proofs.Laws.{frame-exactly, value-exactly}
 pub use Rattle.kamzhor.proofs.Steps.{step-exactly as host-step-exactly}
@@ -78,6 +83,9 @@ pub use Rattle.kamzhor.proofs.Steps.{step-refused}
 -- the receiver's calls
 pub use Rattle.receiver.proofs.Laws.{step-refusal-keeps}
 pub use Rattle.lister.proofs.Laws.{list-refusal-keeps}
+
+-- the filter box's calls
+pub use Rattle.varia.proofs.Laws.{set-refusal-keeps, attenuate-refusal-keeps, monitor-refusal-keeps, status-refusal-keeps}
 
 -- `telegram::read`
 pub read-keeps : (frame room : List ℕ) (f : Unreadable) (room′ : List ℕ) → Reads frame room (reading.Refused f) room′ → room′ ≡ room

@@ -65,6 +65,16 @@ pub use Rattle.nights.proofs.Count.{clear-exactly, openings-between}
 pub use Rattle.nights.proofs.Plainly.{among-plainly, each-plainly, passed-plainly, counted-one, counted-none, count-plainly, others-are, last-there, last-elsewhere}
 -- 02, #102: after a cancel or an expiry the address rests, and a late answer is told as one; both before the address is given again
 pub use Rattle.nights.proofs.Late.{kept-then, rested-before-again, late-refused, nothing-booked, late-exactly, no-ticket-exactly}
+-- ---- 02, #104: the filter box asks its module, through the desk, as its name says, and goes by what the desk answered
+pub use Rattle.varia.proofs.Laws.{edge-registers, set-telegram, attenuate-telegram, monitor-telegram, status-telegram}
+pub use Rattle.varia.proofs.Laws.{set-opened, attenuate-opened, monitor-opened, status-opened, edge-allowed}
+pub use Rattle.varia.proofs.Laws.{make-is, ack-sets, nack-keeps, giving-up-forgets, elsewhere-booked, elsewhere-given-up, reply-same-box, closing-same-box}
+pub use Rattle.varia.proofs.Laws.{display-fresh, display-kept, display-neither, moving-exactly}
+-- over any evening: what it knows of the edges, that at most one request for an edge is out, and the house rule
+pub use Rattle.evenings.proofs.Laws.{any-evening}
+pub use Rattle.evenings.proofs.Plainly.{begins-plainly, goes-on-set, goes-on-attenuate, goes-on-monitor, goes-on-status, goes-on-open, goes-on-reply, goes-on-cancel, goes-on-expire}
+pub use Rattle.evenings.proofs.Plainly.{out-there, out-asked-only, out-elsewhere, known-plainly, known-by-one, known-otherwise}
+pub use Rattle.evenings.proofs.Plainly.{short-known, long-known, known-in-order, out-stands, none-is-out}
 
 -- ---- "A reply closes exactly the ticket open on its host address, and only where module, reply kind and register fit it."
 

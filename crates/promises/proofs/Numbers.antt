@@ -22,6 +22,7 @@ use Rattle.ticket.specs.Due.{age}
 use Rattle.ticket.specs.Fit.{fitRefusal}
 use Rattle.desk.specs.Open.{distanceOf, givenPlace, openRefusal}
 use Rattle.desk.specs.Reply.{bookRefusal, replyRefusal}
+use Rattle.varia.specs.Box.{edgeRefusal, attenuationRefusal}
 use Rattle.promises.specs.Numbers.{allGiven, refusals}
 
 pub every-number : allGiven refusals ≡ true
@@ -30,4 +31,5 @@ unfolding allGiven firstPlace passedFrom substituted framed between restored mes
     greatest fits natural bytesOf valueAt elementOf readValue values.readRefusal values.writeRefusal table isFor lineFor catalogue.named findRefusal findEntry
     readDeed writeDeed heldDeed makeRefusal addRefusal setRefusal placeOf deedOf replyFor replyOf requestRefusal takeRefusal
     next closing told stepFrom stepRefusal stepOf askRefusal age fitRefusal distanceOf givenPlace openRefusal bookRefusal replyRefusal
+    edgeRefusal attenuationRefusal
 every-number = refl

@@ -28,6 +28,16 @@ use Rattle.desk.specs.Open.{openRefusal, openAnswer, openTold, givenPlace}
 use Rattle.desk.specs.Reply.{replyRefusal, bookAnswer, bookTold}
 use Rattle.desk.specs.declared.Desk.{Desk}
 use Rattle.telegram.specs.Read.{fieldsIn}
+use Rattle.varia.specs.Box.{edgeRefusal, attenuationRefusal, faultNumber}
+use Rattle.varia.specs.Display.{whichOf, displayTold}
+use Rattle.varia.specs.declared.Edge.{Edge}
+use Rattle.varia.specs.declared.Edge.the-variants.{Unknown, Known}
+use Rattle.varia.specs.declared.FilterBox.{FilterBox}
+use Rattle.varia.specs.declared.Out.{Out}
+use Rattle.varia.specs.declared.Out.the-variants as out
+use Rattle.varia.specs.declared.Pass.{Pass}
+use Rattle.varia.specs.declared.Pass.the-variants.{Short, Long}
+use Rattle.rows.specs.Rows.{raised}
 use Rattle.promises.specs.Slips.{orZero, bench, request, askedDesk, usedDesk}
 
 pub record Given : Type 0 where
@@ -86,11 +96,25 @@ opening desk clock = openTold (openAnswer (openRefusal desk request [] clock 494
 abbrev pub replying : Desk → List ℕ → Option ℕ
 replying desk frame = bookTold (bookAnswer (replyRefusal desk frame 240) (ticketOn desk 161) (fieldsIn frame))
 
+-- a filter box with these edges and this out, before any desk is asked
+abbrev pub filters : Edge → Edge → Out → FilterBox
+filters short long o = record { job = 9; unit = 16; short = short; long = long; out = o }
+
+abbrev pub settingEdge : FilterBox → Pass → ℕ → Option ℕ
+settingEdge box pass tenths = raised faultNumber (edgeRefusal box pass tenths)
+
+abbrev pub attenuating : ℕ → Option ℕ
+attenuating permille = raised faultNumber (attenuationRefusal permille)
+
+abbrev pub showing : List ℕ → List ℕ → Option ℕ
+showing fresh kept = displayTold (whichOf fresh kept)
+
 -- the reply to that request
 abbrev pub reply : List ℕ
 reply = telegramFor 161 15 8 102 (0x34 ∷ 0x12 ∷ [])
 
--- ---- the table: the reader and the writer, the values, the catalogue, the bench at 15 with register 48, a U8, the receiver, and the desk
+-- ---- the table: the reader and the writer, the values, the catalogue, the bench at 15 with register 48, a U8, the receiver, the desk, and the
+-- filter box
 
 abbrev pub refusals : List Given
 refusals =
@@ -167,4 +191,18 @@ refusals =
     ∷ gives (replying askedDesk (telegramFor 161 10 8 102 [])) 18
     ∷ gives (replying askedDesk (telegramFor 161 15 3 102 [])) 19
     ∷ gives (replying askedDesk (telegramFor 161 15 8 103 [])) 20
+    ∷ gives (settingEdge (filters Unknown Unknown (out.Edge 161 Long 5000)) Short 6000) 59
+    ∷ gives (settingEdge (filters (Known 5000) Unknown (out.Edge 161 Short 6000)) Long 5000) 59
+    ∷ gives (settingEdge (filters Unknown (Known 6000) out.Nothing) Short 6000) 63
+    ∷ gives (settingEdge (filters Unknown (Known 6000) out.Nothing) Short 6001) 0
+    ∷ gives (settingEdge (filters (Known 6000) Unknown out.Nothing) Long 6000) 63
+    ∷ gives (settingEdge (filters (Known 6000) Unknown out.Nothing) Long 5999) 0
+    ∷ gives (settingEdge (filters (Known 6000) Unknown out.Nothing) Short 0) 0
+    ∷ gives (settingEdge (filters Unknown (Known 6000) out.Nothing) Long 65535) 0
+    ∷ gives (attenuating 1001) 62
+    ∷ gives (attenuating 1000) 0
+    ∷ gives (showing (1 ∷ []) (1 ∷ 2 ∷ 3 ∷ [])) 64
+    ∷ gives (showing (1 ∷ 2 ∷ 3 ∷ []) []) 64
+    ∷ gives (showing (1 ∷ 2 ∷ []) (1 ∷ [])) 0
+    ∷ gives (showing (1 ∷ []) (1 ∷ 2 ∷ [])) 0
     ∷ []
