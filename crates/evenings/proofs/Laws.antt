@@ -27,8 +27,8 @@ use Rattle.desk.specs.declared.Desk.{Desk}
 use Rattle.desk.specs.declared.Opening.{Opening}
 use Rattle.desk.specs.declared.Opening.the-variants.{Opened as OpenedAt, Refused as NotOpened}
 use Rattle.nights.proofs.Laws.{step, any-night, opens-after, replies-after, cancels-after, expires-after}
-use Rattle.nights.specs.Night.{Night, eventOf, afterAll, answeredAll, asks, brings, cancels as cancelsAt, expires as expiresAt}
-use Rattle.nights.specs.Night.{Event as Seen, Call}
+use Rattle.nights.specs.Night.{Night, eventOf, answeredAll, asks, brings, cancels as cancelsAt, expires as expiresAt}
+use Rattle.nights.specs.Night.{Event as Seen}
 use Rattle.request.specs.declared.Request.{Request}
 use Rattle.ticket.specs.Ticket.{noTicket, newTicket, withdrawnAt}
 use Rattle.ticket.specs.declared.Ticket.{Ticket}
@@ -38,8 +38,6 @@ use Rattle.varia.specs.Ask.{fromDesk, nowOut, Asks, SetsEdge}
 use Rattle.varia.specs.Box.{freshBox, edgeOf, other, edgeRegister, request, InOrder, edgeRefusal, attenuationRefusal, withOut, withEdge, HearsReply, HearsClosing}
 use Rattle.varia.specs.Box.{booked as afterBooked, withdrawn as afterWithdrawn}
 use Rattle.varia.specs.declared.AfterAsk.{AfterAsk}
-use Rattle.varia.specs.declared.Asking.{Asking}
-use Rattle.varia.specs.declared.Asking.the-variants.{Opened, Refused}
 use Rattle.varia.specs.declared.Edge.the-variants.{Unknown, Known}
 use Rattle.varia.specs.declared.Fault.{Fault}
 use Rattle.varia.specs.declared.FilterBox.{FilterBox}

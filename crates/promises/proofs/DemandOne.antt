@@ -83,7 +83,6 @@ pub use Rattle.kamzhor.proofs.Steps.{step-refused}
 -- the receiver's calls
 pub use Rattle.receiver.proofs.Laws.{step-refusal-keeps}
 pub use Rattle.lister.proofs.Laws.{list-refusal-keeps}
-
 -- the filter box's calls
 pub use Rattle.varia.proofs.Laws.{set-refusal-keeps, attenuate-refusal-keeps, monitor-refusal-keeps, status-refusal-keeps}
 

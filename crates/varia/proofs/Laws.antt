@@ -5,7 +5,7 @@ use mathlib.Core.Bool.{Bool, true, false, cond, true≢false}
 use mathlib.Core.List.{List, [], _∷_}
 use mathlib.Core.Logic.{_⊎_, _≢_, _↔_}
 use mathlib.Core.Option.{Option, some, none}
-use Prim.Native.Nat.{ℕ, _*_, _+_, _%_, _/_, _^_, _≤_, _<_}
+use Prim.Native.Nat.{ℕ, _*_, _+_, _%_, _/_, _^_, _≤_}
 use native.Mathlib.Omega.{arith}
 use borrow.Author.Tests.{leb-false, eq-eqb, ne-eqb}
 use lib.Dec.{eqb}
@@ -29,11 +29,11 @@ use Rattle.desk.specs.declared.Desk.{Desk}
 use Rattle.desk.specs.declared.Opening.{Opening}
 use Rattle.desk.specs.declared.Opening.the-variants.{Opened as OpenedAt, Refused as NotOpened}
 use Rattle.request.specs.declared.Request.{Request}
-use Rattle.values.specs.Values.{bytesOf, natural, bitAt}
+use Rattle.values.specs.Values.{bytesOf, bitAt}
 use Rattle.varia.specs.Ask.{fromDesk, nowOut, Asks, SetsEdge, Attenuates, ReadsMonitor, ReadsStatus}
-use Rattle.varia.specs.Box.{freshBox, edgeOf, other, edgeRegister, attenuationRegister, request, InOrder, faultNumber, isOut, isOutOfOrder, edgeRefusal, attenuationRefusal, withOut, withEdge, booked, withdrawn}
+use Rattle.varia.specs.Box.{edgeOf, other, edgeRegister, attenuationRegister, request, InOrder, faultNumber, isOut, isOutOfOrder, edgeRefusal, attenuationRefusal, withOut, withEdge, booked, withdrawn}
 use Rattle.varia.specs.Box.{Makes, HearsReply, HearsClosing, Numbers}
-use Rattle.varia.specs.Display.{IsMoving, Displays, TellsMoving}
+use Rattle.varia.specs.Display.{Displays, TellsMoving}
 use Rattle.varia.specs.declared.AfterAsk.{AfterAsk}
 use Rattle.varia.specs.declared.Asking.{Asking}
 use Rattle.varia.specs.declared.Asking.the-variants.{Opened, Refused}

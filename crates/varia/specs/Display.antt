@@ -3,7 +3,7 @@
 use mathlib.Core.Path.{_≡_}
 use mathlib.Core.Bool.{Bool, cond, _||_}
 use mathlib.Core.List.{List, [], _∷_}
-use mathlib.Core.Logic.{_⊎_, _≢_}
+use mathlib.Core.Logic.{_≢_}
 use mathlib.Core.Option.{Option, some, none}
 use Prim.Native.Nat.{ℕ}
 use lib.Dec.{eqb}
@@ -37,9 +37,6 @@ abbrev pub displayTold : ℕ → Option ℕ
 displayTold which = cond (eqb which 64) (some 64) none
 
 -- ---- "say whether any of filters 1 to 3 is moving (status bits 12 to 14)"
-
-unfoldable pub IsMoving : ℕ → Type 0
-IsMoving status = (bitAt status 12 ≡ 1) ⊎ ((bitAt status 13 ≡ 1) ⊎ (bitAt status 14 ≡ 1))
 
 abbrev pub isMoving : ℕ → Bool
 isMoving status = eqb (bitAt status 12) 1 || (eqb (bitAt status 13) 1 || eqb (bitAt status 14) 1)

@@ -1,13 +1,8 @@
 use borrow.Author.Needs.{needs}
 use Rattle.varia.proofs.Calls.{attenuation-refused, attenuation-let}
-use mathlib.Core.Path.{refl, sym, ap, _∙_}
+use mathlib.Core.Path.{refl}
 use Rattle.varia.proofs.attenuate.Statement.{statement}
 use Rattle.varia.proofs.attenuate.Tie as tie
-use Rattle.varia.proofs.attenuate.Reads as reads
-use Rattle.varia.proofs.attenuate.Lts as lts
-use Rattle.varia.proofs.passed_on.Reads as passed-on-reads
-use Rattle.varia.proofs.refused.Reads as refused-reads
-use Rattle.varia.proofs.write.Reads as write-reads
 
 refused-requires : tie.Need-refused-requires
 refused-requires c κs = search needs

@@ -1,10 +1,8 @@
 use borrow.Author.Needs.{needs}
 use borrow.Author.Tests.{ne-eqb}
-use mathlib.Core.Path.{refl, sym, ap, _∙_}
+use mathlib.Core.Path.{refl}
 use Rattle.varia.proofs.display.Statement.{statement}
 use Rattle.varia.proofs.display.Tie as tie
-use Rattle.varia.proofs.display.Reads as reads
-use Rattle.varia.proofs.display.Lts as lts
 
 sub-result : tie.Need-sub-result
 sub-result c = search needs

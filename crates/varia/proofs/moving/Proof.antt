@@ -1,10 +1,7 @@
 use borrow.Author.Needs.{needs}
-use mathlib.Core.Path.{refl, sym, ap, _∙_}
+use mathlib.Core.Path.{sym, _∙_}
 use Rattle.varia.proofs.moving.Statement.{statement}
 use Rattle.varia.proofs.moving.Tie as tie
-use Rattle.varia.proofs.moving.Reads as reads
-use Rattle.varia.proofs.moving.Lts as lts
-use Rattle.values.proofs.bit.Reads as bit-reads
 
 bit-requires : tie.Need-bit-requires
 bit-requires c κs = search needs

@@ -1,11 +1,8 @@
 use borrow.Author.Needs.{needs}
 use Rattle.varia.specs.Ask.{nowOut}
-use mathlib.Core.Path.{refl, sym, ap, _∙_}
+use mathlib.Core.Path.{sym, ap, _∙_}
 use Rattle.varia.proofs.now_out.Statement.{statement}
 use Rattle.varia.proofs.now_out.Tie as tie
-use Rattle.varia.proofs.now_out.Reads as reads
-use Rattle.varia.proofs.now_out.Lts as lts
-use Rattle.varia.proofs.with_out.Reads as with-out-reads
 
 enum-known-answer : tie.Need-enum-known-answer
 enum-known-answer c = search needs

@@ -1,9 +1,6 @@
 use borrow.Author.Needs.{needs}
-use mathlib.Core.Path.{refl, sym, ap, _∙_}
 use Rattle.varia.proofs.out_of_order.Statement.{statement}
 use Rattle.varia.proofs.out_of_order.Tie as tie
-use Rattle.varia.proofs.out_of_order.Reads as reads
-use Rattle.varia.proofs.out_of_order.Lts as lts
 
 enum-known-opposite : tie.Need-enum-known-opposite
 enum-known-opposite c = search needs

@@ -1,10 +1,8 @@
 use borrow.Author.Needs.{needs}
 use Rattle.varia.specs.Ask.{fromDesk}
-use mathlib.Core.Path.{refl, sym, ap, _∙_}
+use mathlib.Core.Path.{refl, sym, ap}
 use Rattle.varia.proofs.passed_on.Statement.{statement}
 use Rattle.varia.proofs.passed_on.Tie as tie
-use Rattle.varia.proofs.passed_on.Reads as reads
-use Rattle.varia.proofs.passed_on.Lts as lts
 
 enum-known-answer : tie.Need-enum-known-answer
 enum-known-answer c = search needs

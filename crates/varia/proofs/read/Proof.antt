@@ -1,11 +1,6 @@
 use borrow.Author.Needs.{needs}
-use mathlib.Core.Path.{refl, sym, ap, _∙_}
 use Rattle.varia.proofs.read.Statement.{statement}
 use Rattle.varia.proofs.read.Tie as tie
-use Rattle.varia.proofs.read.Reads as reads
-use Rattle.varia.proofs.read.Lts as lts
-use Rattle.desk.proofs.open.Reads as open-reads
-use Rattle.varia.proofs.asked.Reads as asked-reads
 
 asked-requires : tie.Need-asked-requires
 asked-requires c κs = search needs

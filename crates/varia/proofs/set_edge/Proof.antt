@@ -1,18 +1,8 @@
 use borrow.Author.Needs.{needs}
 use Rattle.varia.proofs.Calls.{out-refused, order-refused, not-refused}
-use mathlib.Core.Path.{refl, sym, ap, _∙_}
+use mathlib.Core.Path.{refl}
 use Rattle.varia.proofs.set_edge.Statement.{statement}
 use Rattle.varia.proofs.set_edge.Tie as tie
-use Rattle.varia.proofs.set_edge.Reads as reads
-use Rattle.varia.proofs.set_edge.Lts as lts
-use Rattle.varia.proofs.edge_register.Reads as edge-register-reads
-use Rattle.varia.proofs.is_out.Reads as is-out-reads
-use Rattle.varia.proofs.now_out.Reads as now-out-reads
-use Rattle.varia.proofs.opposite.Reads as opposite-reads
-use Rattle.varia.proofs.out_of_order.Reads as out-of-order-reads
-use Rattle.varia.proofs.passed_on.Reads as passed-on-reads
-use Rattle.varia.proofs.refused.Reads as refused-reads
-use Rattle.varia.proofs.write.Reads as write-reads
 
 is-out-requires : tie.Need-is-out-requires
 is-out-requires c κs = search needs

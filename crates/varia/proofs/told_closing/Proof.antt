@@ -1,11 +1,8 @@
 use borrow.Author.Needs.{needs}
 use Rattle.varia.proofs.Calls.{closing-elsewhere, closing-forgets}
-use mathlib.Core.Path.{refl, sym, ap, _∙_}
+use mathlib.Core.Path.{_∙_}
 use Rattle.varia.proofs.told_closing.Statement.{statement}
 use Rattle.varia.proofs.told_closing.Tie as tie
-use Rattle.varia.proofs.told_closing.Reads as reads
-use Rattle.varia.proofs.told_closing.Lts as lts
-use Rattle.varia.proofs.with_edge.Reads as with-edge-reads
 
 enum-known-answer : tie.Need-enum-known-answer
 enum-known-answer c = search needs

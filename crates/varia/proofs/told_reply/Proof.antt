@@ -1,12 +1,8 @@
 use borrow.Author.Needs.{needs}
 use Rattle.varia.proofs.Calls.{reply-elsewhere, reply-acks, reply-leaves}
-use mathlib.Core.Path.{refl, sym, ap, _∙_}
+use mathlib.Core.Path.{_∙_}
 use Rattle.varia.proofs.told_reply.Statement.{statement}
 use Rattle.varia.proofs.told_reply.Tie as tie
-use Rattle.varia.proofs.told_reply.Reads as reads
-use Rattle.varia.proofs.told_reply.Lts as lts
-use Rattle.varia.proofs.with_edge.Reads as with-edge-reads
-use Rattle.varia.proofs.with_out.Reads as with-out-reads
 
 enum-known-answer : tie.Need-enum-known-answer
 enum-known-answer c = search needs

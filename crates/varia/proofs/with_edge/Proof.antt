@@ -1,9 +1,6 @@
 use borrow.Author.Needs.{needs}
-use mathlib.Core.Path.{refl, sym, ap, _∙_}
 use Rattle.varia.proofs.with_edge.Statement.{statement}
 use Rattle.varia.proofs.with_edge.Tie as tie
-use Rattle.varia.proofs.with_edge.Reads as reads
-use Rattle.varia.proofs.with_edge.Lts as lts
 
 enum-told : tie.Need-enum-told
 enum-told c = search needs

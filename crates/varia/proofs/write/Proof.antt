@@ -1,14 +1,8 @@
 use borrow.Author.Needs.{needs}
 use Rattle.varia.specs.Box.{request}
 use Rattle.varia.proofs.Calls.{asked-with}
-use mathlib.Core.Path.{refl, sym, ap, _∙_}
 use Rattle.varia.proofs.write.Statement.{statement}
 use Rattle.varia.proofs.write.Tie as tie
-use Rattle.varia.proofs.write.Reads as reads
-use Rattle.varia.proofs.write.Lts as lts
-use Rattle.desk.proofs.open.Reads as open-reads
-use Rattle.values.proofs.store.Reads as store-reads
-use Rattle.varia.proofs.asked.Reads as asked-reads
 
 slice-aggregate-store : tie.Need-slice-aggregate-store
 slice-aggregate-store c = search needs
