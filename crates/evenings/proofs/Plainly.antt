@@ -1,7 +1,7 @@
 -- What the definitions of an evening say, said out. 02, #104.
 -- Assumes nothing.
 use mathlib.Core.Path.{_≡_, refl, sym, ap, subst, _∙_}
-use mathlib.Core.Bool.{true}
+use mathlib.Core.Bool.{true, false}
 use mathlib.Core.List.{List, [], _∷_, _++_}
 use mathlib.Core.Logic.{_≢_, _⊎_, inl, inr, ⊎-elim, _↔_}
 use Prim.Native.Nat.{ℕ, _<_}
@@ -19,7 +19,6 @@ use Rattle.desk.specs.declared.Desk.{Desk}
 use Rattle.desk.specs.declared.Opening.the-variants.{Opened as OpenedAt, Refused as NotOpened}
 use Rattle.nights.specs.Night.{Call, afterAll}
 use Rattle.request.specs.declared.Request.{Request}
-use Rattle.ticket.specs.declared.Ticket.{Ticket}
 use Rattle.varia.specs.Ask.{SetsEdge, Attenuates, ReadsMonitor, ReadsStatus}
 use Rattle.varia.specs.Box.{edgeRegister, HearsReply, HearsClosing}
 use Rattle.varia.specs.declared.AfterAsk.{AfterAsk}
@@ -29,7 +28,7 @@ use Rattle.varia.specs.declared.FilterBox.{FilterBox}
 use Rattle.varia.specs.declared.Out.the-variants.{Nothing, Edge}
 use Rattle.varia.specs.declared.Pass.{Pass}
 use Rattle.varia.specs.declared.Pass.the-variants.{Short, Long}
-use Rattle.evenings.specs.Evening.{Event, Evening, OutOn, Acknowledged, GivenUp, KnownAs, Untouched, Promised, ofEdge, ofAsking, ofOpening, ofBooking, ofClosing}
+use Rattle.evenings.specs.Evening.{Event, Evening, OutOn, Acknowledged, GivenUp, KnownAs, Promised, ofEdge, ofAsking, ofOpening, ofBooking, ofClosing}
 use Rattle.evenings.specs.Evening.{asked, opened, booked, withdrawn, nothing}
 use Rattle.evenings.specs.Evening.{begins, sets, attenuates, readsMonitor, readsStatus, opens, replies, cancels, expires}
 
@@ -147,13 +146,64 @@ out-elsewhere past a b p q v w sort apart = (
 -- ---- an edge is known as v exactly if somewhere type 3 was booked on the address of a request for it with v, and since then no request for
 -- that edge was acknowledged, nor cancelled or expired
 
+-- none of the events since, each with what was answered before it, acknowledges or gives up the edge
+abbrev Untouched : List Event → List Event → Pass → Type 0
+Untouched later earlier p =
+    ((newer : List Event) (a : ℕ) (older : List Event) (w : ℕ) → later ≡ newer ++ (booked a 3 ∷ older) → OutOn (older ++ earlier) a p w → ⊥)
+    × ((newer : List Event) (a : ℕ) (older : List Event) (w : ℕ) → later ≡ newer ++ (withdrawn a ∷ older) → OutOn (older ++ earlier) a p w → ⊥)
+
+-- what acknowledges, and what gives up
+acks : (e : Event) (past : List Event) (p : Pass) (w : ℕ) → Acknowledged e past p w → (a : ℕ) × (e ≡ booked a 3) × OutOn past a p w
+unfolding Acknowledged
+acks (asked pass tenths address) past p w h = absurd h
+acks (opened address) past p w h = absurd h
+acks (booked address sort) past p w h = (address, ap (booked address) (h .0), h .1)
+acks (withdrawn address) past p w h = absurd h
+acks nothing past p w h = absurd h
+
+gives-up : (e : Event) (past : List Event) (p : Pass) → GivenUp e past p → (a : ℕ) × (w : ℕ) × (e ≡ withdrawn a) × OutOn past a p w
+unfolding GivenUp
+gives-up (asked pass tenths address) past p h = absurd h
+gives-up (opened address) past p h = absurd h
+gives-up (booked address sort) past p h = absurd h
+gives-up (withdrawn address) past p h = (address, h .0, refl, h .1)
+gives-up nothing past p h = absurd h
+
+acked : (e : Event) (a : ℕ) (past : List Event) (p : Pass) (w : ℕ) → e ≡ booked a 3 → OutOn past a p w → Acknowledged e past p w
+unfolding Acknowledged
+acked e a past p w is out = subst (λ (x : Event). Acknowledged x past p w) (sym is) (refl, out)
+
+given-up : (e : Event) (a : ℕ) (past : List Event) (p : Pass) (w : ℕ) → e ≡ withdrawn a → OutOn past a p w → GivenUp e past p
+unfolding GivenUp
+given-up e a past p w is out = subst (λ (x : Event). GivenUp x past p) (sym is) (w, out)
+
+-- the first of a list, and the rest
+head-is : {x y : Event} {xs ys : List Event} → x ∷ xs ≡ y ∷ ys → (x ≡ y) × (xs ≡ ys)
+head-is e = (cc, cc)
+
+untouched-more : (e : Event) (later earlier : List Event) (p : Pass) → ((w : ℕ) → Acknowledged e (later ++ earlier) p w → ⊥)
+    → (GivenUp e (later ++ earlier) p → ⊥) → Untouched later earlier p → Untouched (e ∷ later) earlier p
+untouched-more e later earlier p no-ack kept rest = (ack, up)
+  where
+    ack : (newer : List Event) (a : ℕ) (older : List Event) (w : ℕ) → e ∷ later ≡ newer ++ (booked a 3 ∷ older) → OutOn (older ++ earlier) a p w → ⊥
+    ack [] a older w is out =
+        let t = head-is is in
+        no-ack w (acked e a (later ++ earlier) p w (t .0) (subst (λ (x : List Event). OutOn (x ++ earlier) a p w) (sym (t .1)) out))
+    ack (n ∷ newer) a older w is out = rest .0 newer a older w (head-is is .1) out
+
+    up : (newer : List Event) (a : ℕ) (older : List Event) (w : ℕ) → e ∷ later ≡ newer ++ (withdrawn a ∷ older) → OutOn (older ++ earlier) a p w → ⊥
+    up [] a older w is out =
+        let t = head-is is in
+        kept (given-up e a (later ++ earlier) p w (t .0) (subst (λ (x : List Event). OutOn (x ++ earlier) a p w) (sym (t .1)) out))
+    up (n ∷ newer) a older w is out = rest .1 newer a older w (head-is is .1) out
+
 pub known-plainly : (past : List Event) (p : Pass) (v : ℕ)
     → KnownAs past p v
     ↔ ((later : List Event) × (address : ℕ) × (earlier : List Event)
     × (past ≡ later ++ (booked address 3 ∷ earlier))
     × OutOn earlier address p v
     × Untouched later (booked address 3 ∷ earlier) p)
-unfolding KnownAs Acknowledged Untouched
+unfolding KnownAs
 known-plainly past p v = (there past, λ h. back (h .0) (h .1) (h .2) past (h .3) (h .4) (h .5))
   where
     there : (past : List Event) → KnownAs past p v
@@ -162,48 +212,71 @@ known-plainly past p v = (there past, λ h. back (h .0) (h .1) (h .2) past (h .3
         × OutOn earlier address p v
         × Untouched later (booked address 3 ∷ earlier) p
     there [] h = absurd h
-    there (e ∷ past) h = ⊎-elim (λ a. at-once e a) (λ k. later-on e (there past (k .2)) (k .0) (k .1)) h
+    there (e ∷ past) h = ⊎-elim at-once (λ k. later-on k (there past (k .2))) h
       where
-        at-once : (e : Event) → Acknowledged e past p v
+        at-once : Acknowledged e past p v
             → (later : List Event) × (address : ℕ) × (earlier : List Event)
             × (e ∷ past ≡ later ++ (booked address 3 ∷ earlier))
             × OutOn earlier address p v
             × Untouched later (booked address 3 ∷ earlier) p
-        at-once (asked pass tenths address) a = absurd a
-        at-once (opened address) a = absurd a
-        at-once (booked address sort) a = ([], address, past, ap (λ (k : ℕ). booked address k ∷ past) (a .0), a .1, tt)
-        at-once (withdrawn address) a = absurd a
-        at-once nothing a = absurd a
+        at-once a =
+            let t = acks e past p v a in
+            ([], t .0, past, ap (λ (x : Event). x ∷ past) (t .1), t .2, (λ newer b older w is. absurd (none (booked b 3) older newer is), λ newer b older w is. absurd (none (withdrawn b) older newer is)))
+          where
+            none : (x : Event) (older newer : List Event) → [] ≡ newer ++ (x ∷ older) → ⊥
+            none x older [] is = clash (cc)
+            none x older (n ∷ newer) is = clash (cc)
 
-        later-on : (e : Event)
+        later-on : ((w : ℕ) → Acknowledged e past p w → ⊥) × (GivenUp e past p → ⊥) × KnownAs past p v
             → ((later : List Event) × (address : ℕ) × (earlier : List Event)
             × (past ≡ later ++ (booked address 3 ∷ earlier))
             × OutOn earlier address p v
             × Untouched later (booked address 3 ∷ earlier) p)
-            → ((w : ℕ) → Acknowledged e past p w → ⊥) → (GivenUp e past p → ⊥)
             → (later : List Event) × (address : ℕ) × (earlier : List Event)
             × (e ∷ past ≡ later ++ (booked address 3 ∷ earlier))
             × OutOn earlier address p v
             × Untouched later (booked address 3 ∷ earlier) p
-        later-on e t no-ack kept = (
+        later-on k t = (
           e ∷ t .0,
           t .1,
           t .2,
           ap (λ (x : List Event). e ∷ x) (t .3),
           t .4,
-          (
-            λ w a. no-ack w (subst (λ (x : List Event). Acknowledged e x p w) (sym (t .3)) a),
-            λ g. kept (subst (λ (x : List Event). GivenUp e x p) (sym (t .3)) g),
-            t .5,
-          ),
+          untouched-more e (t .0) (booked (t .1) 3 ∷ t .2) p
+              (λ w a. k .0 w (subst (λ (x : List Event). Acknowledged e x p w) (sym (t .3)) a))
+              (λ g. k .1 (subst (λ (x : List Event). GivenUp e x p) (sym (t .3)) g)) (t .5),
         )
 
     back : (later : List Event) (address : ℕ) (earlier past : List Event) → past ≡ later ++ (booked address 3 ∷ earlier) → OutOn earlier address p v
         → Untouched later (booked address 3 ∷ earlier) p → KnownAs past p v
-    back [] address earlier past is out untouched = subst (λ (x : List Event). KnownAs x p v) (sym is) (inl (refl, out))
+    back [] address earlier past is out untouched =
+        subst (λ (x : List Event). KnownAs x p v) (sym is) (inl (acked (booked address 3) address earlier p v refl out))
     back (e ∷ later) address earlier past is out untouched =
         subst (λ (x : List Event). KnownAs x p v) (sym is)
-        (inr (untouched .0, untouched .1, back later address earlier (later ++ (booked address 3 ∷ earlier)) refl out (untouched .2)))
+        (inr (
+          λ w a. let t = acks e (later ++ (booked address 3 ∷ earlier)) p w a in untouched .0 [] (t .0) later w (ap (λ (x : Event). x ∷ later) (t .1)) (t .2),
+          λ g. let t = gives-up e (later ++ (booked address 3 ∷ earlier)) p g in untouched .1 [] (t .0) later (t .1) (ap (λ (x : Event). x ∷ later) (t .2)) (t .3),
+          back later address earlier (later ++ (booked address 3 ∷ earlier)) refl out
+              (λ newer a older w e′. untouched .0 (e ∷ newer) a older w (ap (λ (x : List Event). e ∷ x) e′), λ newer a older w e′. untouched .1 (e ∷ newer) a older w (ap (λ (x : List Event). e ∷ x) e′)),
+        ))
+
+-- one request at most is out under an address, so a later ack replaces the value
+pub out-once : (past : List Event) (a : ℕ) (p q : Pass) (v w : ℕ) → OutOn past a p v → OutOn past a q w → (p ≡ q) × (v ≡ w)
+unfolding OutOn
+out-once [] a p q v w this that = absurd this
+out-once (asked pass tenths address ∷ past) a p q v w this that =
+    ⊎-elim
+    (λ t. ⊎-elim (λ u. (t .1 ∙ sym (u .1), t .2 ∙ sym (u .2))) (λ u. absurd (u .0 (t .0))) that)
+    (λ t. ⊎-elim (λ u. absurd (t .0 (u .0))) (λ u. out-once past a p q v w (t .1) (u .1)) that)
+    this
+out-once (opened address ∷ past) a p q v w this that = out-once past a p q v w (this .1) (that .1)
+out-once (booked address sort ∷ past) a p q v w this that = out-once past a p q v w (this .1) (that .1)
+out-once (withdrawn address ∷ past) a p q v w this that = out-once past a p q v w (this .1) (that .1)
+out-once (nothing ∷ past) a p q v w this that = out-once past a p q v w this that
+
+pub ack-replaces : (past : List Event) (a : ℕ) (p : Pass) (v w : ℕ) → OutOn past a p v → KnownAs (booked a 3 ∷ past) p w → w ≡ v
+unfolding KnownAs Acknowledged
+ack-replaces past a p v w out h = ⊎-elim (λ ack. out-once past a p p w v (ack .1) out .1) (λ later. absurd (later .0 v (refl, out))) h
 
 -- by one event more: an ack makes it known, giving up makes it unknown, and nothing else touches it
 pub known-by-one : (past : List Event) (a : ℕ) (p : Pass) (v : ℕ) → OutOn past a p v
@@ -251,24 +324,20 @@ module _ {job unit : ℕ} {box : FilterBox} {desk : Desk} {past : List Event} (p
   pub out-stands : (a : ℕ) (q : Pass) (v : ℕ) → box .out ≡ Edge a q v
       → OutOn past a q v
       × ((b : ℕ) (x : Pass) (w : ℕ) → OutOn past b x w → (b ≡ a) × (x ≡ q) × (w ≡ v))
-      × (ticketOn desk a .live ≡ true)
-      × (ticketOn desk a .asked .job ≡ job)
-      × (ticketOn desk a .asked .unit ≡ unit)
-      × (ticketOn desk a .asked .sort ≡ 5)
-      × (ticketOn desk a .asked .register ≡ edgeRegister q)
+      × ((wait : ℕ) × (clock : ℕ)
+      × (ticketOn desk a
+      ≡ record {
+        live = true;
+        asked = record { job = job; unit = unit; sort = 5; register = edgeRegister q; wait = wait };
+        opened = clock;
+        withdrawn = false;
+        closed = 0;
+      }))
   out-stands a q v is =
       let out = p .is-out a q v .0 is in
-      let t = p .stands a q v out .2 in (
-        out,
-        λ b x w other. p .one-out b a x q w v other out,
-        ap (λ (k : Ticket). k .live) t,
-        ap (λ (k : Ticket). k .asked .job) t,
-        ap (λ (k : Ticket). k .asked .unit) t,
-        ap (λ (k : Ticket). k .asked .sort) t,
-        ap (λ (k : Ticket). k .asked .register) t,
-      )
+      (out, λ b x w other. p .one-out b a x q w v other out, p .stands a q v out)
 
-  -- and nothing is out exactly where the box has nothing out
+  -- and where the box has nothing out, nothing is
   pub none-is-out : box .out ≡ Nothing → (a : ℕ) (q : Pass) (v : ℕ) → OutOn past a q v → ⊥
   none-is-out is a q v out = clash-of (sym is ∙ p .is-out a q v .1 out)
     where

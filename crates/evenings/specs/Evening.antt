@@ -2,7 +2,7 @@
 -- the desk told to the box, whoever made the call. 02, #104.
 -- Assumes nothing.
 use mathlib.Core.Path.{_≡_}
-use mathlib.Core.List.{List, [], _∷_, _++_}
+use mathlib.Core.List.{List, [], _∷_}
 use mathlib.Core.Logic.{_≢_, _⊎_, _↔_}
 use Prim.Native.Nat.{ℕ, _<_}
 use Rattle.desk.specs.Close.{Cancels, Expires}
@@ -133,17 +133,13 @@ KnownAs [] p v = ⊥
 KnownAs (e ∷ past) p v =
     Acknowledged e past p v ⊎ (((w : ℕ) → Acknowledged e past p w → ⊥) × (GivenUp e past p → ⊥) × KnownAs past p v)
 
--- none of the events since, each with what was answered before it, acknowledges or gives up the edge
-unfoldable pub Untouched : List Event → List Event → Pass → Type 0
-Untouched [] earlier p = Unit {0}
-Untouched (e ∷ later) earlier p = ((w : ℕ) → Acknowledged e (later ++ earlier) p w → ⊥) × (GivenUp e (later ++ earlier) p → ⊥) × Untouched later earlier p
-
 -- ---- what is promised of every evening
 
 pub record Promised (job unit : ℕ) (box : FilterBox) (desk : Desk) (past : List Event) : Type 0 where
   -- an edge is known with v exactly if that was acknowledged last, and not given up since
   pub known : (p : Pass) (v : ℕ) → (edgeOf box p ≡ Known v) ↔ KnownAs past p v
-  -- the box has that request out which is out, and its ticket stands open on its address, as it was asked
+  -- the box has that request out which is out, and its ticket stands open on its address: of the box's job, at its module, a write to that
+  -- edge's register
   pub is-out : (a : ℕ) (p : Pass) (v : ℕ) → (box .out ≡ Edge a p v) ↔ OutOn past a p v
   pub stands : (a : ℕ) (p : Pass) (v : ℕ) → OutOn past a p v
       → (wait : ℕ) × (clock : ℕ)

@@ -67,7 +67,8 @@ pub use Rattle.bench.proofs.Laws.{number-is as bench-number-is}
 pub use Rattle.values.proofs.Laws.{number-is as value-number-is}
 pub use Rattle.catalogue.proofs.Laws.{number-is as catalogue-number-is}
 pub use Rattle.receiver.proofs.Laws.{number-is as receiver-number-is}
-pub use Rattle.varia.proofs.Laws.{number-is as box-number-is}
+pub use Rattle.varia.proofs.Laws.{numbers-are as box-numbers-are, told-number as box-told-number}
+pub use Rattle.varia.proofs.Laws.{set-refused as edge-refused, attenuate-refused, set-passed-up, attenuate-passed-up, monitor-passed-up, status-passed-up}
 -- the same numbers in C
 pub use Rattle.kamzhor.proofs.Laws.{frame-exactly, value-exactly}
 pub use Rattle.kamzhor.proofs.Steps.{step-exactly as host-step-exactly}

@@ -69,11 +69,12 @@ pub use Rattle.nights.proofs.Late.{kept-then, rested-before-again, late-refused
 pub use Rattle.varia.proofs.Laws.{edge-registers, set-telegram, attenuate-telegram, monitor-telegram, status-telegram}
 pub use Rattle.varia.proofs.Laws.{set-opened, attenuate-opened, monitor-opened, status-opened, edge-allowed}
 pub use Rattle.varia.proofs.Laws.{make-is, ack-sets, nack-keeps, giving-up-forgets, elsewhere-booked, elsewhere-given-up, reply-same-box, closing-same-box}
+pub use Rattle.varia.proofs.Laws.{refusals-tell-nothing, nothing-out-stays}
 pub use Rattle.varia.proofs.Laws.{display-fresh, display-kept, display-neither, moving-exactly}
 -- over any evening: what it knows of the edges, that at most one request for an edge is out, and the house rule
 pub use Rattle.evenings.proofs.Laws.{any-evening}
 pub use Rattle.evenings.proofs.Plainly.{begins-plainly, goes-on-set, goes-on-attenuate, goes-on-monitor, goes-on-status, goes-on-open, goes-on-reply, goes-on-cancel, goes-on-expire}
-pub use Rattle.evenings.proofs.Plainly.{out-there, out-asked-only, out-elsewhere, known-plainly, known-by-one, known-otherwise}
+pub use Rattle.evenings.proofs.Plainly.{out-there, out-asked-only, out-elsewhere, out-once, known-plainly, known-by-one, known-otherwise, ack-replaces}
 pub use Rattle.evenings.proofs.Plainly.{short-known, long-known, known-in-order, out-stands, none-is-out}
 
 -- ---- "A reply closes exactly the ticket open on its host address, and only where module, reply kind and register fit it."

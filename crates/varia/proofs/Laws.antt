@@ -1,14 +1,14 @@
 -- What operators and callers may cite of the filter box. 02, #104.
 -- Assumes nothing.
-use mathlib.Core.Path.{_≡_, refl, sym, ap, ap₂, _∙_}
+use mathlib.Core.Path.{_≡_, refl, sym, ap, ap₂, subst, _∙_}
 use mathlib.Core.Bool.{Bool, true, false, cond, true≢false}
 use mathlib.Core.List.{List, [], _∷_}
 use mathlib.Core.Logic.{_⊎_, _≢_, _↔_}
 use mathlib.Core.Option.{Option, some, none}
-use Prim.Native.Nat.{ℕ, _*_, _+_, _%_, _/_, _^_, _≤_}
+use Prim.Native.Nat.{ℕ, _*_, _+_, _%_, _/_, _^_, _≤_, _<_}
 use native.Mathlib.Omega.{arith}
-use borrow.Author.Tests.{leb-false, eq-eqb, ne-eqb}
-use lib.Dec.{eqb}
+use borrow.Author.Tests.{leb-true, leb-false, le-leb, eq-eqb, ne-eqb}
+use lib.Dec.{eqb, leb, ltb}
 use lib.ListN.{length, take}
 use lib.Seq.{take-all}
 use Rattle.rows.proofs.Laws.{decides-eq, decides-or, told-true, first-false, clash}
@@ -25,13 +25,16 @@ use Rattle.desk.specs.declared.Booking.{Booking}
 use Rattle.desk.specs.declared.Booking.the-variants.{Booked, Refused as NotBooked}
 use Rattle.desk.specs.declared.Closing.{Closing}
 use Rattle.desk.specs.declared.Closing.the-variants.{Closed, Refused as NotClosed}
+use Rattle.desk.specs.Desk.{faultNumber as deskNumber}
 use Rattle.desk.specs.declared.Desk.{Desk}
+use Rattle.desk.specs.declared.Fault.{Fault as DeskFault}
 use Rattle.desk.specs.declared.Opening.{Opening}
 use Rattle.desk.specs.declared.Opening.the-variants.{Opened as OpenedAt, Refused as NotOpened}
 use Rattle.request.specs.declared.Request.{Request}
 use Rattle.values.specs.Values.{bytesOf, bitAt}
-use Rattle.varia.specs.Ask.{fromDesk, nowOut, Asks, SetsEdge, Attenuates, ReadsMonitor, ReadsStatus}
-use Rattle.varia.specs.Box.{edgeOf, other, edgeRegister, attenuationRegister, request, InOrder, faultNumber, isOut, isOutOfOrder, edgeRefusal, attenuationRefusal, withOut, withEdge, booked, withdrawn}
+use Rattle.varia.proofs.Calls.{out-refused, order-refused, attenuation-refused}
+use Rattle.varia.specs.Ask.{fromDesk, askTold, nowOut, Asks, SetsEdge, Attenuates, ReadsMonitor, ReadsStatus}
+use Rattle.varia.specs.Box.{edgeOf, other, edgeRegister, attenuationRegister, request, InOrder, isOut, isOutOfOrder, edgeRefusal, attenuationRefusal, withOut, withEdge, booked, withdrawn}
 use Rattle.varia.specs.Box.{Makes, HearsReply, HearsClosing, Numbers}
 use Rattle.varia.specs.Display.{Displays, TellsMoving}
 use Rattle.varia.specs.declared.AfterAsk.{AfterAsk}
@@ -40,7 +43,7 @@ use Rattle.varia.specs.declared.Asking.the-variants.{Opened, Refused}
 use Rattle.varia.specs.declared.Edge.{Edge}
 use Rattle.varia.specs.declared.Edge.the-variants.{Unknown, Known}
 use Rattle.varia.specs.declared.Fault.{Fault}
-use Rattle.varia.specs.declared.Fault.the-variants.{EdgeOut, OutOfOrder}
+use Rattle.varia.specs.declared.Fault.the-variants.{EdgeOut, TooMuch, OutOfOrder, AtDesk}
 use Rattle.varia.specs.declared.FilterBox.{FilterBox}
 use Rattle.varia.specs.declared.Out.{Out}
 use Rattle.varia.specs.declared.Out.the-variants as out
@@ -232,7 +235,111 @@ module _ (box : FilterBox) (desk : Desk) (wait clock : ℕ) (room : List ℕ) (r
       → (r .filters ≡ box) × (r .desk ≡ desk) × (room′ ≡ room)
   status-refusal-keeps = stays box (λ o. box) desk (request box 4 102 wait) [] clock room r room′ none (λ f. refl)
 
+-- ---- numbers: each call's answer tells the number of its refusal, and the desk's refusal is passed up whole, with the desk's number
+
+pub numbers-are : (r : ℕ)
+    → (Numbers EdgeOut r → r ≡ 59)
+    × (Numbers TooMuch r → r ≡ 62)
+    × (Numbers OutOfOrder r → r ≡ 63)
+    × ((f : DeskFault) → Numbers (AtDesk f) r → r ≡ deskNumber f)
+numbers-are r = (λ p. p, λ p. p, λ p. p, λ f p. p)
+
+pub told-number : (f : Fault) (n address : ℕ) (k : ℕ) → (Numbers f k → askTold (Refused f) ≡ some k) × (askTold (Opened address n) ≡ none)
+told-number f n address k = (λ p. ap some (sym p), refl)
+
+own-answer : (box : FilterBox) (next : Opening → FilterBox) (desk : Desk) (asked : Request) (bytes : List ℕ) (clock : ℕ) (room : List ℕ)
+    (r : AfterAsk) (room′ : List ℕ) (own : Option Fault) → Asks own box next desk asked bytes clock room r room′ → (f : Fault) → own ≡ some f → r .answer ≡ Refused f
+own-answer box next desk asked bytes clock room r room′ own a f is = subst (λ (o : Option Fault). Asks o box next desk asked bytes clock room r room′) is a .0 .0
+
+-- which refusal it is, by name: the box's own
+pub set-refused : (box : FilterBox) (desk : Desk) (pass : Pass) (tenths wait clock : ℕ) (room : List ℕ) (r : AfterAsk) (room′ : List ℕ)
+    → SetsEdge pass box desk tenths wait clock room r room′
+    → ((address : ℕ) (which : Pass) (value : ℕ) → box .out ≡ out.Edge address which value → r .answer ≡ Refused EdgeOut)
+    × ((there : ℕ) → box .out ≡ out.Nothing → edgeOf box (other pass) ≡ Known there → (InOrder pass tenths there → ⊥) → r .answer ≡ Refused OutOfOrder)
+set-refused box desk pass tenths wait clock room r room′ a = (
+  λ address which value is. answer EdgeOut (out-refused box pass tenths true (ap isOut (sym is)) refl),
+  λ there free is against.
+      answer OutOfOrder (order-refused box pass tenths false (ap isOut (sym free)) refl (Known there) (sym is) true (sym (not-in-order pass there against)) refl),
+)
+  where
+    answer : (f : Fault) → edgeRefusal box pass tenths ≡ some f → r .answer ≡ Refused f
+    answer = own-answer box (nowOut box pass tenths) desk (request box 5 (edgeRegister pass) wait) (bytesOf 2 tenths) clock room r room′ (edgeRefusal box pass tenths) a
+
+    not-under : (x y : ℕ) → (x < y → ⊥) → y ≤ x
+    not-under x y against = go (leb y x) refl
+      where
+        go : (b : Bool) → leb y x ≡ b → y ≤ x
+        go true e = leb-true y x e
+        go false e = absurd (against (leb-false y x e))
+
+    not-in-order : (x : Pass) (there : ℕ) → (InOrder x tenths there → ⊥) → isOutOfOrder x tenths (Known there) ≡ true
+    not-in-order Short there against = le-leb tenths there (not-under there tenths against)
+    not-in-order Long there against = le-leb there tenths (not-under tenths there against)
+
+pub attenuate-refused : (box : FilterBox) (desk : Desk) (permille wait clock : ℕ) (room : List ℕ) (r : AfterAsk) (room′ : List ℕ)
+    → Attenuates box desk permille wait clock room r room′ → 1000 < permille → r .answer ≡ Refused TooMuch
+attenuate-refused box desk permille wait clock room r room′ a over-it =
+    own-answer box (λ o. box) desk (request box 5 attenuationRegister wait) (bytesOf 2 permille) clock room r room′ (attenuationRefusal permille) a TooMuch
+    (attenuation-refused permille over-it)
+
+-- and the desk's
+module _ (box : FilterBox) (desk : Desk) (wait clock : ℕ) (room : List ℕ) (r : AfterAsk) (room′ : List ℕ) (f : DeskFault) (is : r .answer ≡ Refused (AtDesk f)) where
+  -- the desk refused that request so
+  abbrev DeskRefused : Request → List ℕ → Type 0
+  DeskRefused asked bytes = (o : AfterOpen) × Opens desk asked bytes clock room o room′ × (o .answer ≡ NotOpened f)
+
+  passed-up : (next : Opening → FilterBox) (asked : Request) (bytes : List ℕ) (own : Option Fault) → (own ≡ some (AtDesk f) → ⊥)
+      → Asks own box next desk asked bytes clock room r room′ → DeskRefused asked bytes
+  passed-up next asked bytes (some g) not-own a = absurd (not-own (ap some (same-refusal (sym (a .0 .0) ∙ is))))
+    where
+      same-refusal : Refused g ≡ Refused (AtDesk f) → g ≡ AtDesk f
+      same-refusal e = cc
+  passed-up next asked bytes none not-own a = (a .0, a .1, back (a .0 .answer) (sym (a .2 .0) ∙ is))
+    where
+      back : (o : Opening) → fromDesk o ≡ Refused (AtDesk f) → o ≡ NotOpened f
+      back (OpenedAt address n) e = clash (cc)
+      back (NotOpened g) e = cc
+
+  pub set-passed-up : (pass : Pass) (tenths : ℕ) → SetsEdge pass box desk tenths wait clock room r room′
+      → DeskRefused (record { job = box .job; unit = box .unit; sort = 5; register = edgeRegister pass; wait = wait }) (tenths % 256 ∷ tenths / 256 % 256 ∷ [])
+  unfolding edgeRefusal bytesOf
+  set-passed-up pass tenths a =
+      passed-up (nowOut box pass tenths) (request box 5 (edgeRegister pass) wait) (bytesOf 2 tenths) (edgeRefusal box pass tenths)
+      (own (isOut (box .out)) (isOutOfOrder pass tenths (edgeOf box (other pass)))) a
+    where
+      own : (b c : Bool) → cond b (some EdgeOut) (cond c (some OutOfOrder) none) ≡ some (AtDesk f) → ⊥
+      own true c e = clash (cc)
+      own false true e = clash (cc)
+      own false false e = clash (cc)
+
+  pub attenuate-passed-up : (permille : ℕ) → Attenuates box desk permille wait clock room r room′
+      → DeskRefused (record { job = box .job; unit = box .unit; sort = 5; register = 50; wait = wait }) (permille % 256 ∷ permille / 256 % 256 ∷ [])
+  unfolding attenuationRefusal bytesOf
+  attenuate-passed-up permille a =
+      passed-up (λ o. box) (request box 5 attenuationRegister wait) (bytesOf 2 permille) (attenuationRefusal permille) (own (ltb 1000 permille)) a
+    where
+      own : (b : Bool) → cond b (some TooMuch) none ≡ some (AtDesk f) → ⊥
+      own true e = clash (cc)
+      own false e = clash (cc)
+
+  pub monitor-passed-up : ReadsMonitor box desk wait clock room r room′
+      → DeskRefused (record { job = box .job; unit = box .unit; sort = 4; register = 19; wait = wait }) []
+  monitor-passed-up a = passed-up (λ o. box) (request box 4 19 wait) [] none (λ e. clash (cc)) a
+
+  pub status-passed-up : ReadsStatus box desk wait clock room r room′
+      → DeskRefused (record { job = box .job; unit = box .unit; sort = 4; register = 102; wait = wait }) []
+  status-passed-up a = passed-up (λ o. box) (request box 4 102 wait) [] none (λ e. clash (cc)) a
+
 -- ---- what the box makes of the desk's answers
+
+-- a refusal of the desk's tells it nothing, and neither does an answer while nothing is out
+pub refusals-tell-nothing : (box r : FilterBox) (f : DeskFault) → (HearsReply box (NotBooked f) r → r ≡ box) × (HearsClosing box (NotClosed f) r → r ≡ box)
+refusals-tell-nothing box r f = (λ p. p, λ p. p)
+
+pub nothing-out-stays : (box r : FilterBox) → box .out ≡ out.Nothing
+    → ((job address sort n : ℕ) → HearsReply box (Booked job address sort n) r → r ≡ box)
+    × ((job address : ℕ) → HearsClosing box (Closed job address) r → r ≡ box)
+nothing-out-stays box r free = (λ job address sort n p. p ∙ rw free, λ job address p. p ∙ rw free)
 
 -- one edge is set, and nothing is out any more
 pub edge-set : (box : FilterBox) (pass : Pass) (edge : Edge)
@@ -320,15 +427,12 @@ moving-exactly status r t =
     let d = decides-or (decides-eq (bitAt status 12) 1) (decides-or (decides-eq (bitAt status 13) 1) (decides-eq (bitAt status 14) 1)) in
     (λ e. d .so (sym t ∙ e), λ h. t ∙ told-true d h)
 
--- ---- "Show that any two outcomes allowed by it are equal."
+-- ---- an edge is "unknown, as at first"
 
--- the call `number` gives the number that the laws tell
-pub number-is : (f : Fault) (r : ℕ) → Numbers f r → r ≡ faultNumber f
-number-is f r p = p
-
--- "unknown, as at first"
 pub make-is : (job unit : ℕ) (r : FilterBox) → Makes job unit r → r ≡ record { job = job; unit = unit; short = Unknown; long = Unknown; out = out.Nothing }
 make-is job unit r p = p
+
+-- ---- "Show that any two outcomes allowed by it are equal."
 
 pub makes-settled : (job unit : ℕ) → Settled (Makes job unit)
 makes-settled job unit = settled _

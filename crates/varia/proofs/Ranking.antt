@@ -5,7 +5,7 @@ use mathlib.Core.Bool.{Bool, true, false, cond, true≢false}
 use mathlib.Core.List.{List, [], _∷_, _++_}
 use mathlib.Core.Logic.{⊎-elim, inl, _≢_}
 use mathlib.Core.Option.{Option, some, none}
-use Prim.Native.Nat.{ℕ, _<_}
+use Prim.Native.Nat.{ℕ, _%_, _/_, _<_}
 use native.Mathlib.Omega.{arith}
 use borrow.Author.Tests.{leb-true, leb-false, eqb-true, eqb-false}
 use lib.Dec.{eqb}
@@ -102,9 +102,10 @@ numbered-as : (rs : List (Row ℕ)) (numbers : List ℕ) (told : Option ℕ) →
 numbered-as rs numbers told in-order no-two p =
     record { in-order = in-order; no-two = no-two; each = refused-exactly rs told p; done = done-exactly rs told p }
 
--- the calls one by one, with the box's own conditions written out; the desk's are those of `open-plainly`
+-- the calls one by one, with the box's own conditions and the whole request written out; the desk's conditions on it are those of
+-- `open-plainly`
 module _ (box : FilterBox) (desk : Desk) (wait clock : ℕ) (room : List ℕ) (r : AfterAsk) (room′ : List ℕ) where
-  -- what the desk may refuse of a request
+  -- what the desk may refuse of a request, with the desk's numbers
   abbrev deskRows : Request → List ℕ → List (Row ℕ)
   deskRows asked bytes = passedUp deskNumber (openRows desk asked bytes clock (length room))
 
@@ -122,18 +123,20 @@ module _ (box : FilterBox) (desk : Desk) (wait clock : ℕ) (room : List ℕ) (r
       → Numbered
       (row ((address : ℕ) × (which : Pass) × (value : ℕ) × (box .out ≡ out.Edge address which value)) 59
       ∷ row ((there : ℕ) × (box .long ≡ Known there) × (there < tenths → ⊥)) 63
-      ∷ deskRows (request box 5 51 wait) (bytesOf 2 tenths))
+      ∷ deskRows (record { job = box .job; unit = box .unit; sort = 5; register = 51; wait = wait })
+      (tenths % 256 ∷ tenths / 256 % 256 ∷ []))
       (59 ∷ 63 ∷ 10 ∷ 11 ∷ 12 ∷ 13 ∷ 14 ∷ 15 ∷ 16 ∷ []) (askTold (r .answer))
-  unfolding edgeRows IsEdgeOut IsOutOfOrder
+  unfolding edgeRows IsEdgeOut IsOutOfOrder bytesOf
   set-short-plainly tenths a = set-exactly Short tenths a
 
   pub set-long-plainly : (tenths : ℕ) → SetsEdge Long box desk tenths wait clock room r room′
       → Numbered
       (row ((address : ℕ) × (which : Pass) × (value : ℕ) × (box .out ≡ out.Edge address which value)) 59
       ∷ row ((there : ℕ) × (box .short ≡ Known there) × (tenths < there → ⊥)) 63
-      ∷ deskRows (request box 5 52 wait) (bytesOf 2 tenths))
+      ∷ deskRows (record { job = box .job; unit = box .unit; sort = 5; register = 52; wait = wait })
+      (tenths % 256 ∷ tenths / 256 % 256 ∷ []))
       (59 ∷ 63 ∷ 10 ∷ 11 ∷ 12 ∷ 13 ∷ 14 ∷ 15 ∷ 16 ∷ []) (askTold (r .answer))
-  unfolding edgeRows IsEdgeOut IsOutOfOrder
+  unfolding edgeRows IsEdgeOut IsOutOfOrder bytesOf
   set-long-plainly tenths a = set-exactly Long tenths a
 
   pub attenuate-exactly : (permille : ℕ) → Attenuates box desk permille wait clock room r room′
@@ -147,9 +150,12 @@ module _ (box : FilterBox) (desk : Desk) (wait clock : ℕ) (room : List ℕ) (r
       (attenuationRefusal permille) (attenuation-ranked permille) a)
 
   pub attenuate-plainly : (permille : ℕ) → Attenuates box desk permille wait clock room r room′
-      → Numbered (row (1000 < permille) 62 ∷ deskRows (request box 5 50 wait) (bytesOf 2 permille))
+      → Numbered
+      (row (1000 < permille) 62
+      ∷ deskRows (record { job = box .job; unit = box .unit; sort = 5; register = 50; wait = wait })
+      (permille % 256 ∷ permille / 256 % 256 ∷ []))
       (62 ∷ 10 ∷ 11 ∷ 12 ∷ 13 ∷ 14 ∷ 15 ∷ 16 ∷ []) (askTold (r .answer))
-  unfolding attenuationRows IsTooMuch
+  unfolding attenuationRows IsTooMuch bytesOf
   attenuate-plainly permille a = attenuate-exactly permille a
 
   reads-exactly : (register : ℕ) → Asks none box (λ o. box) desk (request box 4 register wait) [] clock room r room′
@@ -160,11 +166,11 @@ module _ (box : FilterBox) (desk : Desk) (wait clock : ℕ) (room : List ℕ) (r
       (asks-ranked [] (λ o. box) box desk (request box 4 register wait) [] clock room r room′ none tt a)
 
   pub monitor-exactly : ReadsMonitor box desk wait clock room r room′
-      → Numbered (deskRows (request box 4 19 wait) []) (10 ∷ 11 ∷ 12 ∷ 13 ∷ 14 ∷ 15 ∷ 16 ∷ []) (askTold (r .answer))
+      → Numbered (deskRows (record { job = box .job; unit = box .unit; sort = 4; register = 19; wait = wait }) []) (10 ∷ 11 ∷ 12 ∷ 13 ∷ 14 ∷ 15 ∷ 16 ∷ []) (askTold (r .answer))
   monitor-exactly = reads-exactly 19
 
   pub status-exactly : ReadsStatus box desk wait clock room r room′
-      → Numbered (deskRows (request box 4 102 wait) []) (10 ∷ 11 ∷ 12 ∷ 13 ∷ 14 ∷ 15 ∷ 16 ∷ []) (askTold (r .answer))
+      → Numbered (deskRows (record { job = box .job; unit = box .unit; sort = 4; register = 102; wait = wait }) []) (10 ∷ 11 ∷ 12 ∷ 13 ∷ 14 ∷ 15 ∷ 16 ∷ []) (askTold (r .answer))
   status-exactly = reads-exactly 102
 
 -- ---- the display
