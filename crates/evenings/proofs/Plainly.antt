@@ -220,8 +220,14 @@ known-plainly past p v = (there past, λ h. back (h .0) (h .1) (h .2) past (h .3
             × OutOn earlier address p v
             × Untouched later (booked address 3 ∷ earlier) p
         at-once a =
-            let t = acks e past p v a in
-            ([], t .0, past, ap (λ (x : Event). x ∷ past) (t .1), t .2, (λ newer b older w is. absurd (none (booked b 3) older newer is), λ newer b older w is. absurd (none (withdrawn b) older newer is)))
+            let t = acks e past p v a in (
+              [],
+              t .0,
+              past,
+              ap (λ (x : Event). x ∷ past) (t .1),
+              t .2,
+              (λ newer b older w is. absurd (none (booked b 3) older newer is), λ newer b older w is. absurd (none (withdrawn b) older newer is)),
+            )
           where
             none : (x : Event) (older newer : List Event) → [] ≡ newer ++ (x ∷ older) → ⊥
             none x older [] is = clash (cc)
@@ -256,8 +262,10 @@ known-plainly past p v = (there past, λ h. back (h .0) (h .1) (h .2) past (h .3
         (inr (
           λ w a. let t = acks e (later ++ (booked address 3 ∷ earlier)) p w a in untouched .0 [] (t .0) later w (ap (λ (x : Event). x ∷ later) (t .1)) (t .2),
           λ g. let t = gives-up e (later ++ (booked address 3 ∷ earlier)) p g in untouched .1 [] (t .0) later (t .1) (ap (λ (x : Event). x ∷ later) (t .2)) (t .3),
-          back later address earlier (later ++ (booked address 3 ∷ earlier)) refl out
-              (λ newer a older w e′. untouched .0 (e ∷ newer) a older w (ap (λ (x : List Event). e ∷ x) e′), λ newer a older w e′. untouched .1 (e ∷ newer) a older w (ap (λ (x : List Event). e ∷ x) e′)),
+          back later address earlier (later ++ (booked address 3 ∷ earlier)) refl out (
+            λ newer a older w e′. untouched .0 (e ∷ newer) a older w (ap (λ (x : List Event). e ∷ x) e′),
+            λ newer a older w e′. untouched .1 (e ∷ newer) a older w (ap (λ (x : List Event). e ∷ x) e′),
+          ),
         ))
 
 -- one request at most is out under an address, so a later ack replaces the value

@@ -20,7 +20,9 @@ same-length : tie.Need-same-length
 same-length c = search needs
 
 returns-2 : tie.Need-returns-2
-returns-2 c = rw (attenuation-let (c .before .before .before .before .before .before .before .args .permille) (c .before .before .before .before .before .if1 .left)) (_, c .before .before .before .write .ensures, c .passed-on .ensures)
+returns-2 c =
+    let s = c .before .before .before .before .before .before .before .args in
+    rw (attenuation-let (s .permille) (c .before .before .before .before .before .if1 .left)) (_, c .before .before .before .write .ensures, c .passed-on .ensures)
 
 pub attenuate-spec : {M : Type 1} → statement M
 attenuate-spec =

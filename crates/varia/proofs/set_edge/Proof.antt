@@ -11,7 +11,9 @@ refused-requires : tie.Need-refused-requires
 refused-requires c κs = search needs
 
 returns : tie.Need-returns
-returns c = rw (out-refused (c .before .before .before .before .args .filters) (c .before .before .before .before .args .pass) (c .before .before .before .before .args .tenths) _ (c .before .before .is-out .ensures) (c .before .if1 .taken)) (c .refused .ensures, refl)
+returns c =
+    let s = c .before .before .before .before .args in
+    rw (out-refused (s .filters) (s .pass) (s .tenths) _ (c .before .before .is-out .ensures) (c .before .if1 .taken)) (c .refused .ensures, refl)
 
 opposite-requires : tie.Need-opposite-requires
 opposite-requires c κs = search needs
@@ -25,7 +27,8 @@ refused-requires-2 c κs = search needs
 returns-2 : tie.Need-returns-2
 returns-2 c =
     let s = c .before .before .before .before .before .before .before .args in
-    rw (order-refused (s .filters) (s .pass) (s .tenths) _ (c .before .before .before .before .before .is-out .ensures) (c .before .before .before .before .if1 .left) _ (c .before .before .before .opposite .ensures) _ (c .before .before .out-of-order .ensures) (c .before .if2 .taken)) (c .refused2 .ensures, refl)
+    rw (order-refused (s .filters) (s .pass) (s .tenths) _ (c .before .before .before .before .before .is-out .ensures) (c .before .before .before .before .if1 .left) _ (c .before .before .before .opposite .ensures) _
+    (c .before .before .out-of-order .ensures) (c .before .if2 .taken)) (c .refused2 .ensures, refl)
 
 edge-register-requires : tie.Need-edge-register-requires
 edge-register-requires c κs = search needs
@@ -44,9 +47,12 @@ same-length c = search needs
 
 returns-3 : tie.Need-returns-3
 returns-3 c =
-    let s = c .before .before .before .before .before .before .before .before .before .before .before .before .before .args in
-    rw (not-refused (s .filters) (s .pass) (s .tenths) _ (c .before .before .before .before .before .before .before .before .before .before .before .is-out .ensures) (c .before .before .before .before .before .before .before .before .before .before .if1 .left) _ (c .before .before .before .before .before .before .before .before .before .opposite .ensures) _ (c .before .before .before .before .before .before .before .before .out-of-order .ensures) (c .before .before .before .before .before .before .before .if2 .left))
-    (_, rw (c .before .before .before .before .before .before .edge-register .ensures) at (c .before .before .before .before .write .ensures), rw (c .before .now-out .ensures) at (c .passed-on .ensures))
+    let let-through = c .before .before .before .before .before .before in
+    let checked = let-through .before .before in
+    let s = checked .before .before .before .before .before .args in
+    rw (not-refused (s .filters) (s .pass) (s .tenths) _ (checked .before .before .before .is-out .ensures) (checked .before .before .if1 .left) _
+    (checked .before .opposite .ensures) _ (checked .out-of-order .ensures) (let-through .before .if2 .left))
+    (_, rw (let-through .edge-register .ensures) at (c .before .before .before .before .write .ensures), rw (c .before .now-out .ensures) at (c .passed-on .ensures))
 
 pub set-edge-spec : {M : Type 1} → statement M
 set-edge-spec =

@@ -29,7 +29,9 @@ with-edge-requires : tie.Need-with-edge-requires
 with-edge-requires c κs = search needs
 
 returns-4 : tie.Need-returns-4
-returns-4 c = c .with-edge .ensures ∙ closing-forgets _ _ _ _ (c .before .before .before .out .given .1) _ _ _ (c .before .before .before .before .before .before .answer .given .1) (c .before .if1 .left)
+returns-4 c =
+    c .with-edge .ensures
+    ∙ closing-forgets _ _ _ _ (c .before .before .before .out .given .1) _ _ _ (c .before .before .before .before .before .before .answer .given .1) (c .before .if1 .left)
 
 pub told-closing-spec : {M : Type 1} → statement M
 told-closing-spec =

@@ -25,7 +25,8 @@ same-length c = search needs
 returns : tie.Need-returns
 returns c =
     let s = c .before .before .before .before .before .before .before .before .before .before .args in
-    asked-with (s .desk) (s .clock) (s .room .now) (c .before .before .«open» .result) _ (c .before .before .before .before .before .asked .result) (request (s .filters) 5 (s .register) (s .wait)) _ (s .value)
+    asked-with (s .desk) (s .clock) (s .room .now) (c .before .before .«open» .result) _
+    (c .before .before .before .before .before .asked .result) (request (s .filters) 5 (s .register) (s .wait)) _ (s .value)
     (c .before .before .before .before .before .asked .ensures) (c .before .before .before .before .before .before .before .store .ensures) (c .before .before .«open» .ensures)
 
 pub write-spec : {M : Type 1} → statement M
