@@ -113,7 +113,7 @@ enum {
 /* A telegram has at most so many bytes, both ends included, and a receiver keeps no more of a frame. */
 #define KAMZHOR_MOST_KEPT 494
 
-/* Where refusal is not KAMZHOR_DONE, every other field is 0. */
+/* Where refusal is not KAMZHOR_DONE, every other field is 0, but for place with KAMZHOR_BAD_SUBSTITUTION. */
 struct kamzhor_frame {
     uint32_t refusal;
     uint8_t destination;
@@ -121,7 +121,7 @@ struct kamzhor_frame {
     uint8_t type;
     uint8_t reg;
     uint64_t size;  /* how many data bytes there are */
-    uint64_t place; /* always 0 in this version; kept for the place in the frame where a fault was found */
+    uint64_t place; /* with refusal 3 the place in the frame of the first faulty 94, its start byte being at 0; else 0 */
 };
 
 /* The value is minus magnitude where negative is 1, and magnitude where it is 0. There is no minus 0.

@@ -70,6 +70,15 @@ pub fn refused(out: &mut [u8], n: u8) -> usize {
     field(out, 0, b"no ", n as u64)
 }
 
+// A refusal with the place that comes with number 3.
+pub fn refused_at(out: &mut [u8], n: u8, place: usize) -> usize {
+    let at = refused(out, n);
+    if n == 3 {
+        return field(out, at, b" place=", place as u64);
+    }
+    at
+}
+
 pub fn bad_line(out: &mut [u8]) -> usize {
     text(out, 0, b"bad line")
 }

@@ -8,3 +8,4 @@ pub mod Kept
 pub mod Written
 pub mod Silence
 pub mod Shown
+pub mod Passed

@@ -31,7 +31,7 @@ use Rattle.bench.proofs.Rules.{reply-reads}
 unread-number : (frame : List ℕ) (f : Unreadable) → readRefusal frame 240 ≡ some f → MeansSilence (faultNumber (Unread f))
 unread-number frame NotFramed e = inl (omega arith, omega arith)
 unread-number frame StrayEnd e = inl (omega arith, omega arith)
-unread-number frame BadSubstitution e = inl (omega arith, omega arith)
+unread-number frame (BadSubstitution place) e = inl (omega arith, omega arith)
 unread-number frame ShortMessage e = inl (omega arith, omega arith)
 unread-number frame LongMessage e = inl (omega arith, omega arith)
 unread-number frame NoRoom e = absurd (never-6 frame e)

@@ -8,7 +8,7 @@ use lib.Dec.{eqb, ltb}
 use lib.ListN.{getD, replicate, set}
 use Rattle.first.specs.First.{firstPlace}
 use Rattle.deeds.specs.declared.Register.{Register}
-use Rattle.telegram.specs.Read.{faultNumber as readNumber}
+use Rattle.telegram.specs.Read.{faultNumber as readNumber, faultPlace as readPlace}
 use Rattle.values.specs.Values.{sizeOf, isSigned, valueAt}
 use Rattle.values.specs.declared.Value.{Value}
 use Rattle.bench.specs.declared.Bench.{Bench}
@@ -89,6 +89,20 @@ faultNumber NoRoom = 37
 faultNumber NotHeld = 38
 faultNumber DoesNotFit = 43
 
+-- the place that comes with the reader's 3; 0 with all else
+abbrev pub faultPlace : Fault → ℕ
+faultPlace (Unread f) = readPlace f
+faultPlace WrongKind = 0
+faultPlace WrongRights = 0
+faultPlace AlreadyThere = 0
+faultPlace Full = 0
+faultPlace NotAModule = 0
+faultPlace OtherAddress = 0
+faultPlace NotARequest = 0
+faultPlace NoRoom = 0
+faultPlace NotHeld = 0
+faultPlace DoesNotFit = 0
+
 abbrev pub shown : Bool → Register → Seen
 shown true register = seen.Held register
 shown false register = seen.NotHeld
@@ -97,6 +111,10 @@ shown false register = seen.NotHeld
 
 abbrev pub Numbers : Fault → ℕ → Type 0
 Numbers fault r = r ≡ faultNumber fault
+
+-- `place`
+abbrev pub Places : Fault → ℕ → Type 0
+Places fault r = r ≡ faultPlace fault
 
 abbrev pub Looks : Bench → ℕ → Seen → Type 0
 Looks bench number r = r ≡ shown (isHeld bench number) (named bench number)

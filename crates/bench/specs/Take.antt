@@ -23,7 +23,7 @@ use Rattle.bench.specs.declared.Fault.the-variants.{Unread, OtherAddress
 use Rattle.bench.specs.declared.Taking.{Taking}
 use Rattle.bench.specs.declared.Taking.the-variants.{Answered, Silent}
 use Rattle.bench.specs.declared.AfterTake.{AfterTake}
-use Rattle.bench.specs.Register.{named, placeOf, isHeld, withValue, faultNumber}
+use Rattle.bench.specs.Register.{named, placeOf, isHeld, withValue, faultNumber, faultPlace}
 
 -- ---- what a request does and what is answered
 
@@ -92,6 +92,11 @@ takeAnswer none reply = Answered (length reply)
 abbrev pub takeTold : Taking → Option ℕ
 takeTold (Silent f) = some (faultNumber f)
 takeTold (Answered n) = none
+
+-- the place that it tells, with the reader's 3; 0 for none
+abbrev pub takePlace : Taking → ℕ
+takePlace (Silent f) = faultPlace f
+takePlace (Answered n) = 0
 
 -- the register's value afterwards; where the register is not held, nothing changes
 unfoldable pub doneTo : Bench → ℕ → Deed → Bench

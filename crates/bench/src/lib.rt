@@ -10,7 +10,7 @@ pub use build::set;
 pub use deeds::Register;
 pub use held::look;
 pub use request::take;
-ghost use Rattle.bench.specs.Register.{Numbers};
+ghost use Rattle.bench.specs.Register.{Numbers, Places};
 
 // The first `count` registers are held.
 pub struct Bench {
@@ -78,5 +78,24 @@ pub fn number(fault: Fault) -> u8
         Fault::NoRoom => 37,
         Fault::NotHeld => 38,
         Fault::DoesNotFit => 43,
+    }
+}
+
+// The place in the telegram's frame that comes with number 3; 0 with all else.
+pub fn place(fault: Fault) -> usize
+    ensures { λ r. ⌜ Places fault r ⌝ }
+{
+    match fault {
+        Fault::Unread(why) => telegram::place(why),
+        Fault::WrongKind => 0,
+        Fault::WrongRights => 0,
+        Fault::AlreadyThere => 0,
+        Fault::Full => 0,
+        Fault::NotAModule => 0,
+        Fault::OtherAddress => 0,
+        Fault::NotARequest => 0,
+        Fault::NoRoom => 0,
+        Fault::NotHeld => 0,
+        Fault::DoesNotFit => 0,
     }
 }

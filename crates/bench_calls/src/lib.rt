@@ -142,7 +142,9 @@ fn tele_now(b: Bench, frame: &[u8], room: &mut [u8], out: &mut [u8]) -> Shown {
 
 fn taking(answer: Taking, out: &mut [u8]) -> usize {
     match answer {
-        Taking::Silent(fault) => answers::refused(out, bench::number(fault)),
+        Taking::Silent(fault) => {
+            answers::refused_at(out, bench::number(fault), bench::place(fault))
+        }
         Taking::Answered(n) => {
             let at = answers::ok(out);
             answers::field(out, at, b" n=", n as u64)

@@ -2,3 +2,4 @@ pub mod Ranking
 pub mod Calls
 pub mod Answers
 pub mod Laws
+pub mod Passed

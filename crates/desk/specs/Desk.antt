@@ -6,7 +6,7 @@ use Prim.Native.Nat.{ℕ, _-_}
 use lib.Dec.{leb}
 use lib.ListN.{getD, replicate, set}
 use Rattle.request.specs.Request.{faultNumber as askNumber}
-use Rattle.telegram.specs.Read.{faultNumber as readNumber}
+use Rattle.telegram.specs.Read.{faultNumber as readNumber, faultPlace as readPlace}
 use Rattle.ticket.specs.Fit.{faultNumber as fitNumber}
 use Rattle.ticket.specs.Ticket.{Open, noTicket}
 use Rattle.ticket.specs.declared.Ticket.{Ticket}
@@ -46,6 +46,16 @@ faultNumber (Misfit f) = fitNumber f
 faultNumber NotTheirs = 21
 faultNumber NothingDue = 22
 
+-- the place that comes with the reader's 3; 0 with all else
+abbrev pub faultPlace : Fault → ℕ
+faultPlace (Denied f) = 0
+faultPlace NoneFree = 0
+faultPlace NoRoom = 0
+faultPlace (Unread f) = readPlace f
+faultPlace (Misfit f) = 0
+faultPlace NotTheirs = 0
+faultPlace NothingDue = 0
+
 -- what looking at an address shows, by whether a ticket is open there and whether its last one was cancelled or expired
 abbrev pub shown : Ticket → Bool → Bool → Seen
 shown ticket true withdrawn = seen.Open ticket
@@ -62,3 +72,7 @@ Looks desk address r = r ≡ shown (ticketOn desk address) (ticketOn desk addres
 
 abbrev pub Numbers : Fault → ℕ → Type 0
 Numbers fault r = r ≡ faultNumber fault
+
+-- `place`
+abbrev pub Places : Fault → ℕ → Type 0
+Places fault r = r ≡ faultPlace fault

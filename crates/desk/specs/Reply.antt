@@ -9,7 +9,7 @@ use Rattle.lent.specs.Lent.{over}
 use Rattle.rows.specs.Rows.{Row, orLater, passedUp, raised}
 use Rattle.telegram.specs.Read.{readRefusal, readRows, fieldsIn, dataIn}
 use Rattle.telegram.specs.declared.Fields.{Fields}
-use Rattle.desk.specs.Desk.{ticketOn, putAt, faultNumber}
+use Rattle.desk.specs.Desk.{ticketOn, putAt, faultNumber, faultPlace}
 use Rattle.ticket.specs.Fit.{fitRows, fitRefusal}
 use Rattle.ticket.specs.Ticket.{noTicket}
 use Rattle.ticket.specs.declared.Ticket.{Ticket}
@@ -46,6 +46,11 @@ bookAnswer none ticket t = Booked (ticket .asked .job) (t .destination) (t .sort
 abbrev pub bookTold : Booking → Option ℕ
 bookTold (Refused f) = some (faultNumber f)
 bookTold (Booked job address sort n) = none
+
+-- the place that an answer tells, with the reader's 3; 0 for none
+abbrev pub bookPlace : Booking → ℕ
+bookPlace (Refused f) = faultPlace f
+bookPlace (Booked job address sort n) = 0
 
 -- the desk without the ticket that was answered. 02, #102: "Booked replies still free the address at once."
 abbrev pub answeredOn : Desk → ℕ → Desk

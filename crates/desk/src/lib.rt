@@ -3,7 +3,7 @@
 pub use request::Request;
 use ticket::NO_TICKET;
 pub use ticket::Ticket;
-ghost use Rattle.desk.specs.Desk.{Fresh, Looks, Numbers, ticketOn, putAt};
+ghost use Rattle.desk.specs.Desk.{Fresh, Looks, Numbers, Places, ticketOn, putAt};
 ghost use Rattle.desk.specs.Open.{Opens, PlacesAt, distanceOf, withTicket};
 ghost use Rattle.desk.specs.Reply.{Replies, answeredOn};
 ghost use Rattle.desk.specs.Close.{Cancels, Expires, Withdraws, duePlace, isTheirs};
@@ -98,6 +98,21 @@ pub fn number(fault: Fault) -> u8
         Fault::Misfit(misfit) => ticket::number(misfit),
         Fault::NotTheirs => 21,
         Fault::NothingDue => 22,
+    }
+}
+
+// The place in the reply's frame that comes with number 3; 0 with all else.
+pub fn place(fault: Fault) -> usize
+    ensures { λ r. ⌜ Places fault r ⌝ }
+{
+    match fault {
+        Fault::Denied(_) => 0,
+        Fault::NoneFree => 0,
+        Fault::NoRoom => 0,
+        Fault::Unread(unread) => telegram::place(unread),
+        Fault::Misfit(_) => 0,
+        Fault::NotTheirs => 0,
+        Fault::NothingDue => 0,
     }
 }
 

@@ -175,7 +175,9 @@ fn reply_now(d: Desk, frame: &[u8], room: &mut [u8], out: &mut [u8]) -> Told {
 
 fn booked(answer: Booking, out: &mut [u8]) -> usize {
     match answer {
-        Booking::Refused(fault) => answers::refused(out, desk::number(fault)),
+        Booking::Refused(fault) => {
+            answers::refused_at(out, desk::number(fault), desk::place(fault))
+        }
         Booking::Booked(job, address, sort, size) => {
             let at = whose(job, address, out);
             let next = answers::field(out, at, b" type=", sort as u64);

@@ -16,7 +16,7 @@ use lib.Pow.{pow-pos}
 use Rattle.rows.proofs.Settled.{settled, settled-with}
 use Rattle.rows.specs.Settled.{Settled}
 use Rattle.rows.specs.Rows.{passedUp, raised, Numbered}
-use Rattle.rows.proofs.Laws.{numbered}
+use Rattle.rows.proofs.Laws.{numbered, clash}
 use Rattle.remainder.specs.Remainder.{Remains}
 use Rattle.telegram.specs.Read.{readFrame, readRefusal, roomAfter, fieldsIn, dataIn}
 use Rattle.telegram.specs.declared.Fields.{Fields}
@@ -30,6 +30,7 @@ use Rattle.receiver.specs.Receiver.{Starts, Steps}
 use Rattle.receiver.specs.declared.Receiver.{Receiver}
 use Rattle.receiver.specs.declared.Stepped.{Stepped}
 use Rattle.kamzhor.specs.Host.{GivesRemainder, GivesFrame, GivesValue, GivesReceiver, GivesStep}
+use Rattle.telegram.proofs.Faulty.{place-told, no-other-place}
 use Rattle.kamzhor.specs.Host.{told, frameNumber, frameGiven, valueNumber, valueFound, valueGiven, isSmall, meant, stepGiven}
 use Rattle.kamzhor.specs.declared.FrameAnswer.{FrameAnswer}
 use Rattle.kamzhor.specs.declared.ValueAnswer.{ValueAnswer}
@@ -120,7 +121,7 @@ frame-told : (o : Option tfault.Fault) (t : Fields) → told (frameGiven (telegr
 frame-told none t = refl
 frame-told (some NotFramed) t = refl
 frame-told (some StrayEnd) t = refl
-frame-told (some BadSubstitution) t = refl
+frame-told (some (BadSubstitution place)) t = refl
 frame-told (some ShortMessage) t = refl
 frame-told (some LongMessage) t = refl
 frame-told (some NoRoom) t = refl
@@ -156,16 +157,16 @@ value-exactly kind bytes element gives =
 -- ---- "It returns its number only, and every buffer [is] as before."
 
 only-frame : (o : Option tfault.Fault) (t : Fields) (bytes room : List ℕ) → frameGiven (telegram.readAnswer o t) .refusal ≢ 0
-    → (frameGiven (telegram.readAnswer o t) ≡ frameNumber (frameGiven (telegram.readAnswer o t) .refusal)) × (roomAfter o bytes room ≡ room)
+    → (frameGiven (telegram.readAnswer o t) ≡ frameNumber (frameGiven (telegram.readAnswer o t) .refusal) (frameGiven (telegram.readAnswer o t) .place)) × (roomAfter o bytes room ≡ room)
 only-frame (some f) t bytes room n = (refl, refl)
 only-frame none t bytes room n = absurd (n refl)
 
 pub frame-refused : (frame room : List ℕ) {r : FrameAnswer} {room′ : List ℕ} → GivesFrame frame room r room′ → r .refusal ≢ 0
-    → (r ≡ frameNumber (r .refusal)) × (room′ ≡ room)
+    → (r ≡ frameNumber (r .refusal) (r .place)) × (room′ ≡ room)
 unfolding readFrame
 frame-refused frame room {r} g n =
     let only = only-frame (readRefusal frame (length room)) (fieldsIn frame) (dataIn frame) room (rw (g .0) at n) in
-    (subst (λ (a : FrameAnswer). a ≡ frameNumber (a .refusal)) (sym (g .0)) (only .0), g .1 ∙ only .1)
+    (subst (λ (a : FrameAnswer). a ≡ frameNumber (a .refusal) (a .place)) (sym (g .0)) (only .0), g .1 ∙ only .1)
 
 only-value : (q : vreading.Reading) → valueGiven q .refusal ≢ 0 → valueGiven q ≡ valueNumber (valueGiven q .refusal)
 only-value (vreadings.Refused f) n = refl
@@ -176,17 +177,16 @@ pub value-refused : (kind : ℕ) (bytes : List ℕ) (element : ℕ) {r : ValueAn
 value-refused kind bytes element g n =
     subst (λ (a : ValueAnswer). a ≡ valueNumber (a .refusal)) (sym g) (only-value (readValue kind bytes element) (λ e. n (ap (λ (a : ValueAnswer). a .refusal) g ∙ e)))
 
--- every other field is then 0
+-- every other field but the place is then 0
 pub frame-number-only : (frame room : List ℕ) {r : FrameAnswer} {room′ : List ℕ} → GivesFrame frame room r room′ → r .refusal ≢ 0
-    → (r .destination ≡ 0) × (r .source ≡ 0) × (r .sort ≡ 0) × (r .register ≡ 0) × (r .size ≡ 0) × (r .place ≡ 0)
+    → (r .destination ≡ 0) × (r .source ≡ 0) × (r .sort ≡ 0) × (r .register ≡ 0) × (r .size ≡ 0)
 frame-number-only frame room {r} g n =
-    let is : r ≡ frameNumber (r .refusal) = frame-refused frame room g n .0 in (
+    let is : r ≡ frameNumber (r .refusal) (r .place) = frame-refused frame room g n .0 in (
       ap (λ (a : FrameAnswer). a .destination) is,
       ap (λ (a : FrameAnswer). a .source) is,
       ap (λ (a : FrameAnswer). a .sort) is,
       ap (λ (a : FrameAnswer). a .register) is,
       ap (λ (a : FrameAnswer). a .size) is,
-      ap (λ (a : FrameAnswer). a .place) is,
     )
 
 pub value-number-only : (kind : ℕ) (bytes : List ℕ) (element : ℕ) {r : ValueAnswer} → GivesValue kind bytes element r → r .refusal ≢ 0
@@ -195,13 +195,34 @@ value-number-only kind bytes element {r} g n =
     let is : r ≡ valueNumber (r .refusal) = value-refused kind bytes element g n in
     (ap (λ (a : ValueAnswer). a .negative) is, ap (λ (a : ValueAnswer). a .magnitude) is)
 
--- `place` is 0 today, in every answer
-place-none : (q : treading.Reading) → frameGiven q .place ≡ 0
-place-none (Refused f) = refl
-place-none (Telegram t) = refl
+-- 02, #105: the place is the reader's, with 3, and 0 with all else
+place-read : (q : treading.Reading) → frameGiven q .place ≡ telegram.readPlace q
+place-read (Refused f) = refl
+place-read (Telegram t) = refl
 
-pub frame-place : (frame room : List ℕ) {r : FrameAnswer} {room′ : List ℕ} → GivesFrame frame room r room′ → r .place ≡ 0
-frame-place frame room g = ap (λ (a : FrameAnswer). a .place) (g .0) ∙ place-none (readFrame frame (length room))
+three-read : (q : treading.Reading) → frameGiven q .refusal ≡ 3 → telegram.readTold q ≡ some 3
+three-read (Refused f) e = ap some e
+three-read (Telegram t) e = absurd (omega arith)
+
+read-three : (q : treading.Reading) → telegram.readTold q ≡ some 3 → frameGiven q .refusal ≡ 3
+read-three (Refused f) e = some-is e
+  where
+    some-is : {m n : ℕ} → _≡_ {A = Option ℕ} (some m) (some n) → m ≡ n
+    some-is p = cc
+read-three (Telegram t) e = clash (cc)
+
+pub frame-place : (frame room : List ℕ) {r : FrameAnswer} {room′ : List ℕ} → GivesFrame frame room r room′ → r .refusal ≡ 3
+    → telegram.FirstFaulty frame (r .place)
+frame-place frame room g is =
+    let q = readFrame frame (length room) in
+    subst (telegram.FirstFaulty frame) (sym (ap (λ (a : FrameAnswer). a .place) (g .0) ∙ place-read q))
+    (place-told frame (length room) q refl (three-read q (sym (ap (λ (a : FrameAnswer). a .refusal) (g .0)) ∙ is)))
+
+pub frame-no-place : (frame room : List ℕ) {r : FrameAnswer} {room′ : List ℕ} → GivesFrame frame room r room′ → r .refusal ≢ 3 → r .place ≡ 0
+frame-no-place frame room g other =
+    let q = readFrame frame (length room) in
+    ap (λ (a : FrameAnswer). a .place) (g .0) ∙ place-read q
+    ∙ no-other-place q (λ e. other (ap (λ (a : FrameAnswer). a .refusal) (g .0) ∙ read-three q e))
 
 -- ---- signed and unsigned values arrive without loss
 

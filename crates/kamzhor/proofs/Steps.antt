@@ -147,7 +147,7 @@ module _ (r : Receiver) (chunk : List ℕ) {a : StepAnswer} (gives : GivesStep r
   given : {what : Answer} → stepOf r chunk .answer ≡ what → a ≡ answerGiven (stepOf r chunk .receiver) (stepOf r chunk .taken) what
   given e = gives ∙ ap (answerGiven (stepOf r chunk .receiver) (stepOf r chunk .taken)) e
 
-  pub line-none : stepOf r chunk .answer ≡ Nothing → (a .refusal ≡ 0) × (a .line ≡ 0) × (a .place ≡ 0) × (a .frame ≡ frameNumber 0)
+  pub line-none : stepOf r chunk .answer ≡ Nothing → (a .refusal ≡ 0) × (a .line ≡ 0) × (a .place ≡ 0) × (a .frame ≡ frameNumber 0 0)
   line-none e = rw (given e) (refl, refl, refl, refl)
 
   pub line-read : (place : ℕ) (t : Fields) → stepOf r chunk .answer ≡ Line (placed place (event.Read t)) → (a .refusal ≡ 0) × (a .line ≡ 1) × (a .place ≡ place)
@@ -155,9 +155,9 @@ module _ (r : Receiver) (chunk : List ℕ) {a : StepAnswer} (gives : GivesStep r
   line-read place t e = rw (given e) (refl, refl, refl, refl)
 
   pub line-refused : (place : ℕ) (f : Unreadable) → stepOf r chunk .answer ≡ Line (placed place (event.Refused f))
-      → (a .refusal ≡ 0) × (a .line ≡ 2) × (a .place ≡ place) × (a .frame ≡ frameNumber (telegram.faultNumber f))
+      → (a .refusal ≡ 0) × (a .line ≡ 2) × (a .place ≡ place) × (a .frame ≡ frameNumber (telegram.faultNumber f) (telegram.faultPlace f))
   line-refused place f e = rw (given e) (refl, refl, refl, refl)
 
   pub line-dropped : (place : ℕ) → stepOf r chunk .answer ≡ Line (placed place event.Dropped)
-      → (a .refusal ≡ 0) × (a .line ≡ 3) × (a .place ≡ place) × (a .frame ≡ frameNumber 0)
+      → (a .refusal ≡ 0) × (a .line ≡ 3) × (a .place ≡ place) × (a .frame ≡ frameNumber 0 0)
   line-dropped place e = rw (given e) (refl, refl, refl, refl)

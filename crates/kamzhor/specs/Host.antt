@@ -38,9 +38,9 @@ told refusal = cond (eqb refusal 0) none (some refusal)
 
 -- ---- the frame reader
 
--- a number only: every other field is 0
-abbrev pub frameNumber : ℕ → FrameAnswer
-frameNumber n = record { refusal = n; destination = 0; source = 0; sort = 0; register = 0; size = 0; place = 0 }
+-- a number, and with 3 the place in the frame (02, #105): every other field is 0
+abbrev pub frameNumber : ℕ → ℕ → FrameAnswer
+frameNumber n place = record { refusal = n; destination = 0; source = 0; sort = 0; register = 0; size = 0; place = place }
 
 abbrev pub frameFields : Fields → FrameAnswer
 frameFields t =
@@ -55,7 +55,7 @@ frameFields t =
     }
 
 abbrev pub frameGiven : treading.Reading → FrameAnswer
-frameGiven (Refused f) = frameNumber (telegram.faultNumber f)
+frameGiven (Refused f) = frameNumber (telegram.faultNumber f) (telegram.faultPlace f)
 frameGiven (Telegram t) = frameFields t
 
 -- ---- the value reader
@@ -101,11 +101,11 @@ lineKind event.Open = 4
 abbrev pub lineFrame : Event → FrameAnswer
 lineFrame (event.Read t) = frameGiven (Telegram t)
 lineFrame (event.Refused f) = frameGiven (Refused f)
-lineFrame event.Dropped = frameNumber 0
-lineFrame event.Open = frameNumber 0
+lineFrame event.Dropped = frameNumber 0 0
+lineFrame event.Open = frameNumber 0 0
 
 abbrev pub noLine : Receiver → ℕ → ℕ → StepAnswer
-noLine r taken refusal = record { refusal = refusal; line = 0; taken = taken; place = 0; frame = frameNumber 0; receiver = r }
+noLine r taken refusal = record { refusal = refusal; line = 0; taken = taken; place = 0; frame = frameNumber 0 0; receiver = r }
 
 abbrev pub withLine : Receiver → ℕ → Placed → StepAnswer
 withLine r taken e =

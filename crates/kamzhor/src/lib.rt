@@ -6,8 +6,8 @@ ghost use Rattle.kamzhor.specs.Host.{frameNumber, frameGiven, valueNumbe
 ghost use Rattle.values.specs.Values.{faultNumber};
 ghost use mathlib.Core.Path.{_≡_};
 
-// A frame's reading. `refusal` is the paper's number, or 0 for a telegram; all else is 0 where it
-// is not 0. `sort` is the message type and `size` how many data bytes there are.
+// A frame's reading. `refusal` is the paper's number, or 0 for a telegram; all else but `place` is 0
+// where it is not 0. `sort` is the message type and `size` how many data bytes there are.
 #[repr(C)]
 pub struct FrameAnswer {
     pub refusal: u32,
@@ -16,7 +16,7 @@ pub struct FrameAnswer {
     pub sort: u8,
     pub register: u8,
     pub size: u64,
-    // Room for where in the frame a refusal was found, so that this layout need not change: 0.
+    // With refusal 3 the place in the frame of the first faulty 94, the start byte's being 0; else 0.
     pub place: u64,
 }
 
@@ -95,7 +95,9 @@ fn of_reading(reading: telegram::Reading) -> FrameAnswer
     ensures { λ r. ⌜ r ≡ frameGiven reading ⌝ }
 {
     match reading {
-        telegram::Reading::Refused(fault) => frame_number(telegram::number(fault)),
+        telegram::Reading::Refused(fault) => {
+            frame_number(telegram::number(fault), telegram::place(fault))
+        }
         telegram::Reading::Telegram(t) => FrameAnswer {
             refusal: 0,
             destination: t.destination,
@@ -108,9 +110,9 @@ fn of_reading(reading: telegram::Reading) -> FrameAnswer
     }
 }
 
-// A refusal's number, or 0 where there is nothing to say of a frame.
-fn frame_number(refusal: u8) -> FrameAnswer
-    ensures { λ r. ⌜ r ≡ frameNumber refusal ⌝ }
+// A refusal's number and place, or 0 where there is nothing to say of a frame.
+fn frame_number(refusal: u8, place: usize) -> FrameAnswer
+    ensures { λ r. ⌜ r ≡ frameNumber refusal place ⌝ }
 {
     FrameAnswer {
         refusal: refusal as u32,
@@ -119,7 +121,7 @@ fn frame_number(refusal: u8) -> FrameAnswer
         sort: 0,
         register: 0,
         size: 0,
-        place: 0,
+        place: place as u64,
     }
 }
 
@@ -183,7 +185,7 @@ fn no_line(receiver: Receiver, taken: usize, refusal: u8) -> StepAnswer
         line: 0,
         taken: taken as u64,
         place: 0,
-        frame: frame_number(0),
+        frame: frame_number(0, 0),
         receiver,
     }
 }
@@ -206,7 +208,7 @@ fn of_event(event: lines::Event) -> FrameAnswer
     match event {
         lines::Event::Read(t) => of_reading(telegram::Reading::Telegram(t)),
         lines::Event::Refused(fault) => of_reading(telegram::Reading::Refused(fault)),
-        lines::Event::Dropped => frame_number(0),
-        lines::Event::Open => frame_number(0),
+        lines::Event::Dropped => frame_number(0, 0),
+        lines::Event::Open => frame_number(0, 0),
     }
 }

@@ -2,19 +2,24 @@
 -- Assumes nothing.
 
 -- ---- how much room a line takes, for whoever lends it
-use mathlib.Core.Path.{_≡_, refl}
+use mathlib.Core.Path.{_≡_, refl, ap}
 use mathlib.Core.Bool.{Bool, true, false, cond}
-use mathlib.Core.List.{List, [], _++_}
+use mathlib.Core.List.{List, [], _++_, append-nil}
+use mathlib.Core.Logic.{_≢_}
 use Prim.Native.Nat.{ℕ, _+_, _≤_}
 use native.Mathlib.Omega.{arith}
+use borrow.Author.Tests.{ne-eqb}
+use lib.Dec.{eqb}
 use lib.ListN.{length, length-append}
 use Rattle.rows.proofs.Settled.{settled-with}
 use Rattle.rows.specs.Settled.{Settled}
 use Rattle.lent.proofs.Laws.{length-over}
-use Rattle.telegram.specs.Read.{faultNumber}
+use Rattle.telegram.specs.Read.{faultNumber, faultPlace}
+use Rattle.telegram.specs.declared.Fault.{Fault}
+use Rattle.telegram.specs.declared.Fault.the-variants.{BadSubstitution}
 use Rattle.text.proofs.Laws.{decimal-short}
 use Rattle.text.specs.Text.{ascii, newline, decimal, decimalBy}
-use Rattle.lines.specs.Lines.{headerText, eventText, lineText, totalsText, endingText, Writes}
+use Rattle.lines.specs.Lines.{headerText, labelled, placeText, eventText, lineText, totalsText, endingText, Writes}
 use Rattle.lines.specs.declared.Event.{Event}
 use Rattle.lines.specs.declared.Event.the-variants.{Read, Refused, Dropped, Open}
 
@@ -22,7 +27,13 @@ event-short : (e : Event) → length (eventText e) ≤ 125
 event-short (Read t) =
     simp length-append
     (omega (arith, decimal-short (t .destination), decimal-short (t .source), decimal-short (t .sort), decimal-short (t .register), decimal-short (t .size)))
-event-short (Refused f) = omega (arith, decimal-short (faultNumber f))
+event-short (Refused f) =
+    rw (length-append (labelled (ascii " refused") (faultNumber f)) (placeText (faultNumber f) (faultPlace f)))
+    (go (eqb (faultNumber f) 3))
+  where
+    go : (b : Bool) → length (labelled (ascii " refused") (faultNumber f)) + length (cond b (labelled (ascii " in") (faultPlace f)) []) ≤ 125
+    go true = omega (arith, decimal-short (faultNumber f), decimal-short (faultPlace f))
+    go false = omega (arith, decimal-short (faultNumber f))
 event-short Dropped = omega arith
 event-short Open = omega arith
 
@@ -61,6 +72,18 @@ writes-settled text room = settled-with _ _
 pub read-line : lineText 12 (Read (record { destination = 1; source = 2; sort = 3; register = 4; size = 5 })) ≡ ascii "at 12 ok 1 2 3 4 5" ++ newline
 unfolding lineText decimal decimalBy
 read-line = refl
+
+-- with 3 the place, with any other number none
+pub refused-line : lineText 12 (Refused (BadSubstitution 5)) ≡ ascii "at 12 refused 3 in 5" ++ newline
+unfolding lineText decimal decimalBy
+refused-line = refl
+
+pub other-refused-line : (place : ℕ) (f : Fault) → faultNumber f ≢ 3 → lineText place (Refused f) ≡ labelled (ascii "at") place ++ (labelled (ascii " refused") (faultNumber f) ++ newline)
+unfolding lineText
+other-refused-line place f other = ap (λ (x : List ℕ). labelled (ascii "at") place ++ (x ++ newline)) none-there
+  where
+    none-there : eventText (Refused f) ≡ labelled (ascii " refused") (faultNumber f)
+    none-there = rw (ne-eqb (faultNumber f) 3 other) (append-nil (labelled (ascii " refused") (faultNumber f)))
 
 pub dropped-line : lineText 7 Dropped ≡ ascii "at 7 dropped" ++ newline
 unfolding lineText decimal decimalBy

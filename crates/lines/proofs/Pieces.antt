@@ -1,7 +1,9 @@
 -- How a text is put together from its pieces in a lent room.
 -- Assumes nothing.
-use mathlib.Core.Path.{_≡_, sym, ap, ap₂, _∙_}
-use mathlib.Core.List.{List, [], _∷_, _++_}
+use mathlib.Core.Path.{_≡_, sym, ap, ap₂, subst, _∙_}
+use mathlib.Core.Logic.{_≢_}
+use borrow.Author.Tests.{eq-eqb, ne-eqb}
+use mathlib.Core.List.{append-nil, List, [], _∷_, _++_}
 use mathlib.Core.Bool.{true, false, Bool}
 use Prim.Native.Nat.{ℕ, _+_, _≤_}
 use native.Mathlib.Omega.{arith}
@@ -11,7 +13,7 @@ use Rattle.lent.specs.Lent.{overAt}
 use Rattle.lent.proofs.Laws.{overAt-append, overAt-zero}
 use Rattle.text.specs.Text.{decimal, Spells, ascii}
 use Rattle.text.proofs.Laws.{decimal-short}
-use Rattle.telegram.specs.Read.{faultNumber}
+use Rattle.telegram.specs.Read.{faultNumber, faultPlace}
 use Rattle.telegram.specs.declared.Fault.{Fault}
 use Rattle.lines.specs.declared.Event.{Event}
 use Rattle.lines.specs.Lines.{Puts, Writes, field, eventText, labelled, lineText, totalsText, endingText}
@@ -55,9 +57,17 @@ field-fits n a r room room′ h s = omega (arith, spelled-short n a r room room�
 pub event-put : (event known : Event) (at r : ℕ) (room room′ : List ℕ) → event ≡ known → Puts (eventText known) at room r room′ → Puts (eventText event) at room r room′
 event-put event known at r room room′ e p = rw e p
 
-pub refused-put : (fault : Fault) (n at r : ℕ) (room room′ : List ℕ) → n ≡ faultNumber fault → Puts (labelled (ascii " refused") n) at room r room′
-    → Puts (eventText (Refused fault)) at room r room′
-refused-put fault n at r room room′ e p = rw (← e) p
+-- a refused frame's number, and its place where there is one
+module _ (fault : Fault) (n at a : ℕ) (room room₁ : List ℕ) (e : n ≡ faultNumber fault) (p : Puts (labelled (ascii " refused") n) at room a room₁) where
+  pub placed-put : (place r : ℕ) (room₂ : List ℕ) → n ≡ 3 → place ≡ faultPlace fault → Puts (labelled (ascii " in") place) a room₁ r room₂
+      → Puts (eventText (Refused fault)) at room r room₂
+  placed-put place r room₂ three is q =
+      rw (← e, eq-eqb n 3 three, ← is) (puts-then (labelled (ascii " refused") n) (labelled (ascii " in") place) at a r room room₁ room₂ p q)
+
+  pub unplaced-put : n ≢ 3 → Puts (eventText (Refused fault)) at room a room₁
+  unplaced-put other =
+      let text : eventText (Refused fault) ≡ labelled (ascii " refused") n = rw (← e, ne-eqb n 3 other) (append-nil (labelled (ascii " refused") n)) in
+      subst (λ (x : List ℕ). Puts x at room a room₁) (sym text) p
 
 -- ---- the end
 

@@ -4,9 +4,10 @@ use mathlib.Core.Path.{_≡_}
 use mathlib.Core.Bool.{cond, Bool}
 use mathlib.Core.List.{List, [], _++_}
 use Prim.Native.Nat.{ℕ, _+_}
+use lib.Dec.{eqb}
 use lib.ListN.{length}
 use Rattle.lent.specs.Lent.{over, overAt}
-use Rattle.telegram.specs.Read.{faultNumber}
+use Rattle.telegram.specs.Read.{faultNumber, faultPlace}
 use Rattle.text.specs.Text.{ascii, newline, decimal}
 use Rattle.lines.specs.declared.Event.{Event}
 use Rattle.lines.specs.declared.Event.the-variants.{Read, Refused, Dropped, Open}
@@ -22,10 +23,14 @@ field n = ascii " " ++ decimal n
 abbrev pub labelled : List ℕ → ℕ → List ℕ
 labelled word n = word ++ field n
 
+-- 02, #105: "the listing's line becomes `at P refused 3 in Q`"; no other number has a place
+abbrev pub placeText : ℕ → ℕ → List ℕ
+placeText number place = cond (eqb number 3) (labelled (ascii " in") place) []
+
 -- "The fields after ok are destination, source, type, register, data length."
 abbrev pub eventText : Event → List ℕ
 eventText (Read t) = labelled (ascii " ok") (t .destination) ++ (field (t .source) ++ (field (t .sort) ++ (field (t .register) ++ field (t .size))))
-eventText (Refused f) = labelled (ascii " refused") (faultNumber f)
+eventText (Refused f) = labelled (ascii " refused") (faultNumber f) ++ placeText (faultNumber f) (faultPlace f)
 eventText Dropped = ascii " dropped"
 eventText Open = ascii " open"
 

@@ -74,10 +74,24 @@ fn event_at(event: Event, room: &mut [u8], at: usize) -> usize
 {
     match event {
         Event::Read(t) => fields(t, room, at),
-        Event::Refused(fault) => labelled(b" refused", telegram::number(fault) as u64, room, at),
+        Event::Refused(fault) => refused(fault, room, at),
         Event::Dropped => word(b" dropped", room, at),
         Event::Open => word(b" open", room, at),
     }
+}
+
+// A refused frame's number, and with 3 the place in the frame.
+fn refused(fault: telegram::Fault, room: &mut [u8], at: usize) -> usize
+    requires { ⌜ at ≤ 30 ⌝ }
+    ensures { λ r. ⌜ Puts (eventText (Event.Refused fault)) at (now (room .entry)) r (now (room .exit)) × (r ≤ 149) ⌝ }
+{
+    let number = telegram::number(fault);
+    let a = labelled(b" refused", number as u64, room, at);
+    if number == 3 {
+        let place = telegram::place(fault);
+        return labelled(b" in", place as u64, room, a);
+    }
+    a
 }
 
 fn fields(t: telegram::Fields, room: &mut [u8], at: usize) -> usize

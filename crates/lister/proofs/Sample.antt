@@ -6,7 +6,8 @@ use Prim.Native.Nat.{ℕ}
 use native.Mathlib.Omega.{arith}
 use Rattle.lent.specs.Lent.{over, overAt}
 use Rattle.frame.specs.Frame.{messageOf, between, restored}
-use Rattle.telegram.specs.Read.{readFrame, readRefusal, messageRefusal, fieldsOf, hasStrayEnd, hasBadSubstitution}
+use Rattle.first.specs.First.{firstPlace, passedFrom}
+use Rattle.telegram.specs.Read.{readFrame, readRefusal, messageRefusal, fieldsOf, hasStrayEnd, hasBadSubstitution, badPlace}
 use Rattle.text.specs.Text.{ascii, newline, decimal, decimalBy}
 use Rattle.lines.specs.Lines.{headerText, lineText, totalsText, endingText}
 use Rattle.listing.specs.Events.{frameEvent, total}
@@ -25,13 +26,13 @@ second = 48 ∷ 72 ∷ 47 ∷ 10 ∷ 13 ∷ []
 
 -- a room of one line's length takes a line a call
 pub poured-text : poursAll (λ place. 150) (beginAt 0) (first ∷ [] ∷ second ∷ []) .text ≡ ascii "at 0 dropped" ++ (newline ++ (ascii "at 4 refused 4" ++ newline))
-unfolding messageOf between restored readFrame readRefusal messageRefusal fieldsOf hasStrayEnd hasBadSubstitution over overAt frameEvent
+unfolding messageOf between restored readFrame readRefusal messageRefusal fieldsOf hasStrayEnd hasBadSubstitution badPlace firstPlace passedFrom over overAt frameEvent
     noBytes next closing told stepRefusal pour pourOf pours poursAll linesText lineText decimal decimalBy total
 poured-text = refl
 
 pub end-text : endText (poursAll (λ place. 150) (beginAt 0) (first ∷ [] ∷ second ∷ []) .listing)
     ≡ ascii "at 9 open" ++ (newline ++ (ascii "ok 0 refused 1 dropped 1" ++ newline))
-unfolding messageOf between restored readFrame readRefusal messageRefusal fieldsOf hasStrayEnd hasBadSubstitution over overAt frameEvent
+unfolding messageOf between restored readFrame readRefusal messageRefusal fieldsOf hasStrayEnd hasBadSubstitution badPlace firstPlace passedFrom over overAt frameEvent
     noBytes next closing told stepRefusal pour pourOf pours poursAll linesText lineText totalsText endingText decimal decimalBy total
 end-text = refl
 

@@ -11,7 +11,11 @@ use native.Mathlib.Omega.{arith}
 use borrow.Author.Tests.{lt-ltb, le-ltb, eq-eqb, eqb-true, leb-true}
 use lib.Dec.{eqb, leb, ltb}
 use lib.ListN.{length, getD, drop, take}
-use Rattle.telegram.specs.Read.{readFrame}
+use mathlib.Core.Option.{some}
+use Rattle.rows.proofs.Laws.{clash}
+use Rattle.telegram.proofs.Faulty.{place-told}
+use Rattle.telegram.specs.Read.{readFrame, FirstFaulty, faultNumber, faultPlace}
+use Rattle.telegram.specs.declared.Fault.{Fault}
 use Rattle.telegram.specs.declared.Reading.{Reading}
 use Rattle.lines.specs.declared.Event.{Event}
 use Rattle.lines.specs.declared.Event.the-variants.{Refused, Dropped, Open}
@@ -131,6 +135,22 @@ module _ (frame : List ℕ) where
   pub is-read : length frame ≤ 494 → readEvent (readFrame frame 240) ≡ frameEvent frame
   unfolding frameEvent
   is-read h = rw (le-ltb 494 (length frame) h) refl
+
+  -- 02, #105: a line `refused 3` has the place of the first faulty 94; over 494 bytes 5 goes first, which has none
+  pub refused-line-place : (f : Fault) → frameEvent frame ≡ Refused f → faultNumber f ≡ 3 → FirstFaulty frame (faultPlace f)
+  unfolding frameEvent
+  refused-line-place f is number = go (ltb 494 (length frame)) is
+    where
+      same : Refused LongMessage ≡ Refused f → LongMessage ≡ f
+      same e = cc
+
+      read : (q : Reading) → readEvent q ≡ Refused f → q ≡ reading.Refused f
+      read (reading.Telegram t) e = clash (cc)
+      read (reading.Refused g) e = cc
+
+      go : (long : Bool) → cond long (Refused LongMessage) (readEvent (readFrame frame 240)) ≡ Refused f → FirstFaulty frame (faultPlace f)
+      go true e = let five : _≡_ {A = ℕ} 5 (faultNumber f) = ap faultNumber (same e) in absurd (omega arith)
+      go false e = place-told frame 240 (reading.Refused f) (sym (read (readFrame frame 240) e)) (ap some number)
 
 -- a frame that a 10 closed is not open
 pub closed-not-open : (frame : List ℕ) → isOpen (frameEvent frame) ≡ 0

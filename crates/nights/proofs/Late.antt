@@ -159,7 +159,7 @@ module _ (desk : Desk) (closing : Call) (job place closed : ℕ) (gave-up : even
 read-number-low : (f : Unreadable) → readNumber f ≤ 9
 read-number-low unreadable.NotFramed = omega arith
 read-number-low unreadable.StrayEnd = omega arith
-read-number-low unreadable.BadSubstitution = omega arith
+read-number-low (unreadable.BadSubstitution place) = omega arith
 read-number-low unreadable.ShortMessage = omega arith
 read-number-low unreadable.LongMessage = omega arith
 read-number-low unreadable.NoRoom = omega arith

@@ -69,6 +69,13 @@ pub use Rattle.catalogue.proofs.Laws.{number-is as catalogue-number-is}
 pub use Rattle.receiver.proofs.Laws.{number-is as receiver-number-is}
 pub use Rattle.varia.proofs.Laws.{numbers-are as box-numbers-are, told-number as box-told-number}
 pub use Rattle.varia.proofs.Laws.{set-refused as edge-refused, attenuate-refused, set-passed-up, attenuate-passed-up, monitor-passed-up, status-passed-up}
+-- 02, #105: with 3 the place of the first faulty 94, and with no other number a place
+pub use Rattle.telegram.proofs.Faulty.{place-told, read-place, refused-place, first-faulty-once, first-faulty-plainly, no-other-place, fault-no-place}
+pub use Rattle.telegram.proofs.Faulty.{place-first, place-within, place-faulty}
+pub use Rattle.desk.proofs.Passed.{reply-place, reply-no-place}
+pub use Rattle.bench.proofs.Passed.{take-place, take-no-place}
+pub use Rattle.listing.proofs.Laws.{refused-line-place}
+pub use Rattle.kamzhor.proofs.Laws.{frame-place, frame-no-place}
 -- the same numbers in C
 pub use Rattle.kamzhor.proofs.Laws.{frame-exactly, value-exactly}
 pub use Rattle.kamzhor.proofs.Steps.{step-exactly as host-step-exactly}

@@ -6,7 +6,7 @@ use mathlib.Core.Bool.{true}
 use Rattle.first.specs.First.{firstPlace, passedFrom}
 use Rattle.frame.specs.Frame.{substituted, framed, between, restored, messageOf}
 use Rattle.remainder.specs.Remainder.{timesX, timesXs, withByte, withBytes, remainderOf}
-use Rattle.telegram.specs.Read.{hasStrayEnd, hasBadSubstitution, messageRefusal, readRefusal, fieldsOf, dataOf, readFrame}
+use Rattle.telegram.specs.Read.{hasStrayEnd, hasBadSubstitution, badPlace, messageRefusal, readRefusal, fieldsOf, dataOf, readFrame}
 use Rattle.telegram.specs.Write.{sealed, writeRefusal}
 use Rattle.values.specs.Values.{sizeOf, isSigned, isKind, greatest, fits, natural, bytesOf, valueAt, elementOf, readValue}
 use Rattle.values.specs.Values as values
@@ -27,7 +27,7 @@ use Rattle.promises.specs.Numbers.{allGiven, refusals}
 
 pub every-number : allGiven refusals ≡ true
 unfolding allGiven firstPlace passedFrom substituted framed between restored messageOf timesX timesXs withByte withBytes remainderOf
-    hasStrayEnd hasBadSubstitution messageRefusal readRefusal fieldsOf dataOf readFrame sealed writeRefusal sizeOf isSigned isKind
+    hasStrayEnd hasBadSubstitution badPlace messageRefusal readRefusal fieldsOf dataOf readFrame sealed writeRefusal sizeOf isSigned isKind
     greatest fits natural bytesOf valueAt elementOf readValue values.readRefusal values.writeRefusal table isFor lineFor catalogue.named findRefusal findEntry
     readDeed writeDeed heldDeed makeRefusal addRefusal setRefusal placeOf deedOf replyFor replyOf requestRefusal takeRefusal
     next closing told stepFrom stepRefusal stepOf askRefusal age fitRefusal distanceOf givenPlace openRefusal bookRefusal replyRefusal

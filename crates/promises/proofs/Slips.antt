@@ -6,7 +6,7 @@ use Rattle.first.specs.First.{firstPlace, passedFrom}
 use Rattle.frame.specs.Frame.{substituted, framed, between, restored, messageOf}
 use Rattle.remainder.specs.Remainder.{timesX, timesXs, withByte, withBytes, remainderOf}
 use Rattle.request.specs.Request.{askRefusal}
-use Rattle.telegram.specs.Read.{hasStrayEnd, hasBadSubstitution, messageRefusal, readRefusal, fieldsOf, dataOf, readFrame}
+use Rattle.telegram.specs.Read.{hasStrayEnd, hasBadSubstitution, badPlace, messageRefusal, readRefusal, fieldsOf, dataOf, readFrame}
 use Rattle.telegram.specs.Write.{sealed}
 use Rattle.ticket.specs.Fit.{fitRefusal}
 use Rattle.desk.specs.Open.{distanceOf, givenPlace, openRefusal}
@@ -19,7 +19,7 @@ use Rattle.promises.specs.Slips.{allShow, slips}
 
 pub every-slip : allShow slips ≡ true
 unfolding allShow firstPlace passedFrom substituted framed between restored messageOf timesX timesXs withByte withBytes remainderOf
-    askRefusal hasStrayEnd hasBadSubstitution messageRefusal readRefusal fieldsOf dataOf readFrame sealed fitRefusal distanceOf
+    askRefusal hasStrayEnd hasBadSubstitution badPlace messageRefusal readRefusal fieldsOf dataOf readFrame sealed fitRefusal distanceOf
     givenPlace openRefusal sizeOf natural bytesOf readDeed writeDeed heldDeed placeOf deedOf replyFor replyOf requestRefusal
     takeRefusal doneTo toNext frameEvent eventOf eventsFrom eventsOf total
 every-slip = refl

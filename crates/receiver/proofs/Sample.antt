@@ -6,7 +6,8 @@ use Prim.Native.Nat.{ℕ}
 use native.Mathlib.Omega.{arith}
 use Rattle.lent.specs.Lent.{over, overAt}
 use Rattle.frame.specs.Frame.{messageOf, between, restored}
-use Rattle.telegram.specs.Read.{readFrame, readRefusal, messageRefusal, fieldsOf, hasStrayEnd, hasBadSubstitution}
+use Rattle.first.specs.First.{firstPlace, passedFrom}
+use Rattle.telegram.specs.Read.{readFrame, readRefusal, messageRefusal, fieldsOf, hasStrayEnd, hasBadSubstitution, badPlace}
 use Rattle.telegram.specs.declared.Fault.the-variants.{ShortMessage}
 use Rattle.lines.specs.declared.Event.the-variants.{Refused, Dropped}
 use Rattle.listing.specs.Events.{placed, frameEvent}
@@ -22,7 +23,7 @@ abbrev second : List ℕ
 second = 48 ∷ 72 ∷ 47 ∷ 10 ∷ 13 ∷ []
 
 pub cut : feed (outsideAt 0) (first ∷ [] ∷ second ∷ []) ≡ run (openedAt 9) (placed 0 Dropped ∷ placed 4 (Refused ShortMessage) ∷ []) []
-unfolding messageOf between restored readFrame readRefusal messageRefusal fieldsOf hasStrayEnd hasBadSubstitution over overAt frameEvent
+unfolding messageOf between restored readFrame readRefusal messageRefusal fieldsOf hasStrayEnd hasBadSubstitution badPlace firstPlace passedFrom over overAt frameEvent
     noBytes next closing told stepFrom stepRefusal stepOf steps feed
 cut = refl
 

@@ -24,7 +24,7 @@ use Rattle.telegram.specs.declared.Judged.the-variants.{Sound, Unsound}
 use Rattle.telegram.specs.declared.Fields.{Fields}
 use Rattle.telegram.specs.declared.Reading.{Reading}
 use Rattle.telegram.specs.declared.Reading.the-variants.{Telegram, Refused}
-use Rattle.telegram.specs.Read.{byte, notFramed, hasStrayEnd, hasBadSubstitution, frameTests, lengthTests, messageTests, judged, readRefusal, fieldsOf, readAnswer, readFrame, messageRefusal, dataOf, fieldsIn}
+use Rattle.telegram.specs.Read.{byte, notFramed, hasStrayEnd, hasBadSubstitution, badPlace, frameTests, lengthTests, messageTests, judged, readRefusal, fieldsOf, readAnswer, readFrame, messageRefusal, dataOf, fieldsIn}
 -- both are of the rows, and whoever judges telegrams wants them too
 pub use Rattle.rows.proofs.Laws.{first-false, never-both}
 
@@ -41,7 +41,7 @@ judged-unsound (some g) f e = cc
 -- what is left to ask of a frame that begins and ends right, with no end byte between
 pub past-2 : (frame : List ℕ) {ends stray : Bool} {bytes : List ℕ} → ends ≡ notFramed frame → ends ≡ false → bytes ≡ between frame
     → stray ≡ hasStrayEnd bytes → stray ≡ false
-    → firstOf (frameTests frame) ≡ cond (hasBadSubstitution false bytes) (some BadSubstitution) none
+    → firstOf (frameTests frame) ≡ cond (hasBadSubstitution false bytes) (some (BadSubstitution (badPlace frame))) none
 past-2 frame told ends inside found none-found = rw (← told, ends, ← inside, ← found, none-found)
 
 pub or-two : (n : ℕ) (rest : Bool) → (ltb n 2 || rest) ≡ false → 2 ≤ n

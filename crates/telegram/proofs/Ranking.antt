@@ -76,7 +76,7 @@ module _ (frame : List ℕ) (right : IsNotFramed frame → ⊥) where
 
   -- ---- 3
 
-  decides-bad : Decides (hasBadSubstitution false (between frame)) (HasBadSubstitution frame)
+  pub decides-bad : Decides (hasBadSubstitution false (between frame)) (HasBadSubstitution frame)
   unfolding HasBadSubstitution inner
   decides-bad = record { so = found; not-so = missed }
     where
@@ -89,13 +89,15 @@ module _ (frame : List ℕ) (right : IsNotFramed frame → ⊥) where
           at : (i : ℕ) × (i < length (between frame)) × (byte (between frame) i ≡ 94) × Other (inner (suc i)) → HasBadSubstitution frame
           at h = (
             suc (h .0),
-            (omega arith, omega (arith, long-between, h .1)),
-            byte-inner (h .0) ∙ List·getD-append (between frame) (10 ∷ []) 0 (h .0) (h .1) ∙ h .2,
-            rw (after (h .0)) (h .3),
+            (
+              (omega arith, omega (arith, long-between, h .1)),
+              byte-inner (h .0) ∙ List·getD-append (between frame) (10 ∷ []) 0 (h .0) (h .1) ∙ h .2,
+              rw (after (h .0)) (h .3),
+            ),
           )
 
       missed : hasBadSubstitution false (between frame) ≡ false → HasBadSubstitution frame → ⊥
-      missed e h = at (h .0) (h .1) (h .2) (h .3)
+      missed e h = at (h .0) (h .1 .0) (h .1 .1) (h .1 .2)
         where
           at : (i : ℕ) → Between frame i → byte frame i ≡ 94 → Other (byte frame (i + 1)) → ⊥
           at zero b s o = omega (arith, b .0)

@@ -18,7 +18,7 @@ use Rattle.rows.proofs.Laws.{Decides, decides-eq, decides-or, told-false}
 use Rattle.frame.proofs.Laws.{decides-special}
 use Rattle.frame.specs.Frame.{isSpecial, substitute, substituted, framed, between, restored, messageOf}
 use Rattle.telegram.specs.declared.Fault.the-variants.{NotFramed, StrayEnd, BadSubstitution}
-use Rattle.telegram.specs.Read.{byte, notFramed, hasStrayEnd, isSubstitute, hasBadSubstitution, frameTests, isBad}
+use Rattle.telegram.specs.Read.{byte, notFramed, hasStrayEnd, isSubstitute, hasBadSubstitution, badPlace, frameTests, isBad}
 use Rattle.telegram.proofs.Judge.{first-false}
 
 -- ---- from a message to its frame and back
@@ -175,7 +175,7 @@ unfolding messageOf framed pending
 sound-framed frame e =
     let a = first-false (notFramed frame) NotFramed _ e in
     let b = first-false (hasStrayEnd (between frame)) StrayEnd _ (a .1) in
-    let c = first-false (hasBadSubstitution false (between frame)) BadSubstitution _ (b .1) in
+    let c = first-false (hasBadSubstitution false (between frame)) (BadSubstitution (badPlace frame)) _ (b .1) in
     let ends = ends-told frame (a .0) in
     let inner : substituted (restored false (between frame)) ≡ between frame = substituted-back false (between frame) (b .0) (c .0) in
     frame-parts frame (ends .long) ∙ rw (ends .start, ends .end, inner)

@@ -2,12 +2,13 @@
 -- Assumes nothing.
 use mathlib.Core.Path.{_≡_}
 use mathlib.Core.Logic.{_≢_, _⊎_}
-use mathlib.Core.Bool.{Bool, true, false, not, _||_}
+use mathlib.Core.Bool.{Bool, true, false, not, _||_, _&&_}
 use mathlib.Core.List.{List, [], _∷_}
 use mathlib.Core.Option.{Option, some, none}
 use Prim.Native.Nat.{ℕ, _+_, _-_, _≤_, _<_}
 use lib.Dec.{eqb, ltb}
 use lib.ListN.{length, getD, take, drop}
+use Rattle.first.specs.First.{firstPlace}
 use Rattle.lent.specs.Lent.{over}
 use Rattle.remainder.specs.Remainder.{remainderOf}
 use Rattle.rows.specs.Rows.{Row, row, Test, test, firstOf, orLater}
@@ -38,11 +39,18 @@ IsNotFramed frame = (length frame < 2) ⊎ ((byte frame 0 ≢ 13) ⊎ (byte fram
 unfoldable pub HasStrayEnd : List ℕ → Type 0
 HasStrayEnd frame = (i : ℕ) × Between frame i × ((byte frame i ≡ 10) ⊎ (byte frame i ≡ 13))
 
--- 3: "a 94 between the ends whose next byte isn't 74, 77 or 158 (so also a 94 just before the end byte)"
+-- a place with "a 94 between the ends whose next byte isn't 74, 77 or 158 (so also a 94 just before the end byte)"
+abbrev pub FaultyAt : List ℕ → ℕ → Type 0
+FaultyAt frame i =
+    Between frame i × (byte frame i ≡ 94) × ((byte frame (i + 1) ≢ 74) × (byte frame (i + 1) ≢ 77) × (byte frame (i + 1) ≢ 158))
+
+-- 3: there is such a 94
 unfoldable pub HasBadSubstitution : List ℕ → Type 0
-HasBadSubstitution frame =
-    (i : ℕ) × Between frame i × (byte frame i ≡ 94)
-    × ((byte frame (i + 1) ≢ 74) × (byte frame (i + 1) ≢ 77) × (byte frame (i + 1) ≢ 158))
+HasBadSubstitution frame = (i : ℕ) × FaultyAt frame i
+
+-- 02, #105: "the place in the frame of the first faulty 94, counted from the frame's start byte as 0"
+unfoldable pub FirstFaulty : List ℕ → ℕ → Type 0
+FirstFaulty frame place = FaultyAt frame place × ((i : ℕ) → i < place → FaultyAt frame i → ⊥)
 
 -- 4 to 9 speak of the frame's message
 abbrev pub OfMessage : List ℕ → (List ℕ → Type 0) → Type 0
@@ -72,12 +80,23 @@ HasZeroAddress message = (byte message 0 ≡ 0) ⊎ (byte message 1 ≡ 0)
 unfoldable pub HasUnknownType : List ℕ → Type 0
 HasUnknownType message = 9 < byte message 2
 
+-- 94 stands for 10, 13 or 94 only with one of these after it
+abbrev pub isSubstitute : ℕ → Bool
+isSubstitute b = eqb b 74 || (eqb b 77 || eqb b 158)
+
+-- where the first faulty 94 is found: in a frame from 13 to 10 neither end is a 94
+abbrev pub isFaulty : List ℕ → ℕ → Bool
+isFaulty frame i = eqb (byte frame i) 94 && not (isSubstitute (byte frame (i + 1)))
+
+unfoldable pub badPlace : List ℕ → ℕ
+badPlace frame = firstPlace (isFaulty frame) (length frame)
+
 -- in the reader's order
 unfoldable pub readRows : List ℕ → ℕ → List (Row Fault)
 readRows frame room =
     row (IsNotFramed frame) NotFramed
     ∷ row (HasStrayEnd frame) StrayEnd
-    ∷ row (HasBadSubstitution frame) BadSubstitution
+    ∷ row (HasBadSubstitution frame) (BadSubstitution (badPlace frame))
     ∷ row (OfMessage frame IsShort) ShortMessage
     ∷ row (OfMessage frame IsLong) LongMessage
     ∷ row (OfMessage frame (OverRoom room)) NoRoom
@@ -90,7 +109,7 @@ readRows frame room =
 abbrev pub faultNumber : Fault → ℕ
 faultNumber NotFramed = 1
 faultNumber StrayEnd = 2
-faultNumber BadSubstitution = 3
+faultNumber (BadSubstitution place) = 3
 faultNumber ShortMessage = 4
 faultNumber LongMessage = 5
 faultNumber NoRoom = 6
@@ -98,10 +117,27 @@ faultNumber CheckFault = 7
 faultNumber ZeroAddress = 8
 faultNumber UnknownType = 9
 
+-- the place that comes with 3. The other numbers have none, which is told as 0, where the start byte stands
+abbrev pub faultPlace : Fault → ℕ
+faultPlace NotFramed = 0
+faultPlace StrayEnd = 0
+faultPlace (BadSubstitution place) = place
+faultPlace ShortMessage = 0
+faultPlace LongMessage = 0
+faultPlace NoRoom = 0
+faultPlace CheckFault = 0
+faultPlace ZeroAddress = 0
+faultPlace UnknownType = 0
+
 -- the number that a reading tells, or none
 abbrev pub readTold : Reading → Option ℕ
 readTold (Refused f) = some (faultNumber f)
 readTold (Telegram t) = none
+
+-- the place that a reading tells; 0 for none
+abbrev pub readPlace : Reading → ℕ
+readPlace (Refused f) = faultPlace f
+readPlace (Telegram t) = 0
 
 -- ---- how the rows are tested
 
@@ -111,10 +147,6 @@ notFramed frame = ltb (length frame) 2 || (not (eqb (byte frame 0) 13) || not (e
 unfoldable pub hasStrayEnd : List ℕ → Bool
 hasStrayEnd [] = false
 hasStrayEnd (b ∷ rest) = (eqb b 10 || eqb b 13) || hasStrayEnd rest
-
--- 94 stands for 10, 13 or 94 only with one of these after it
-abbrev pub isSubstitute : ℕ → Bool
-isSubstitute b = eqb b 74 || (eqb b 77 || eqb b 158)
 
 abbrev pub isBad : Bool → ℕ → Bool
 isBad true b = not (isSubstitute b)
@@ -129,7 +161,7 @@ abbrev pub frameTests : List ℕ → List (Test Fault)
 frameTests frame =
     test (notFramed frame) NotFramed
     ∷ test (hasStrayEnd (between frame)) StrayEnd
-    ∷ test (hasBadSubstitution false (between frame)) BadSubstitution
+    ∷ test (hasBadSubstitution false (between frame)) (BadSubstitution (badPlace frame))
     ∷ []
 
 abbrev pub lengthTests : ℕ → ℕ → List (Test Fault)
@@ -203,6 +235,10 @@ Judges frame room r = r ≡ readFrame frame room
 
 abbrev pub Numbers : Fault → ℕ → Type 0
 Numbers fault r = r ≡ faultNumber fault
+
+-- `place`
+abbrev pub Places : Fault → ℕ → Type 0
+Places fault r = r ≡ faultPlace fault
 
 -- `why`: the refusal of a reading that is one; a telegram has none, and is answered as row 1 would be
 abbrev pub whyNot : Reading → Fault

@@ -6,7 +6,7 @@ mod writer;
 pub use reader::examine;
 pub use reader::read;
 pub use writer::write;
-ghost use Rattle.telegram.specs.Read.{Numbers, Tells};
+ghost use Rattle.telegram.specs.Read.{Numbers, Places, Tells};
 
 // The types of telegrams: what a module answers, and what a host asks.
 pub const NACK: u8 = 0;
@@ -43,7 +43,9 @@ const LONGEST: usize = 246;
 pub enum Fault {
     NotFramed,
     StrayEnd,
-    BadSubstitution,
+    // the place in the frame of the first 94 that is followed by none of its three bytes; the start
+    // byte stands at 0
+    BadSubstitution(usize),
     ShortMessage,
     LongMessage,
     NoRoom,
@@ -86,13 +88,30 @@ pub fn number(fault: Fault) -> u8
     match fault {
         Fault::NotFramed => 1,
         Fault::StrayEnd => 2,
-        Fault::BadSubstitution => 3,
+        Fault::BadSubstitution(_) => 3,
         Fault::ShortMessage => 4,
         Fault::LongMessage => 5,
         Fault::NoRoom => 6,
         Fault::CheckFault => 7,
         Fault::ZeroAddress => 8,
         Fault::UnknownType => 9,
+    }
+}
+
+// The place that comes with number 3; 0 with all else.
+pub fn place(fault: Fault) -> usize
+    ensures { λ r. ⌜ Places fault r ⌝ }
+{
+    match fault {
+        Fault::NotFramed => 0,
+        Fault::StrayEnd => 0,
+        Fault::BadSubstitution(place) => place,
+        Fault::ShortMessage => 0,
+        Fault::LongMessage => 0,
+        Fault::NoRoom => 0,
+        Fault::CheckFault => 0,
+        Fault::ZeroAddress => 0,
+        Fault::UnknownType => 0,
     }
 }
 

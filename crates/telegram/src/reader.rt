@@ -11,14 +11,14 @@ use frame::END;
 use frame::START;
 use frame::SUBSTITUTION;
 ghost use Rattle.telegram.specs.Read.{Reads, Judges, readFrame, readRefusal, readAnswer, fieldsOf, judged, frameTests, lengthTests, messageTests};
-ghost use Rattle.telegram.specs.Read.{notFramed, hasStrayEnd, hasBadSubstitution, isBad, isSubstitute, messageRefusal};
+ghost use Rattle.telegram.specs.Read.{notFramed, hasStrayEnd, badPlace, isFaulty, isSubstitute, messageRefusal};
 ghost use Rattle.frame.specs.Frame.{between, messageOf, restored};
 ghost use Rattle.lent.specs.Lent.{over};
 ghost use Rattle.rows.specs.Rows.{firstOf};
 ghost use mathlib.Core.Path.{_≡_};
 ghost use mathlib.Core.Bool.{false};
 ghost use mathlib.Core.Option.{none};
-ghost use Prim.Native.Nat.{_-_, _≤_};
+ghost use Prim.Native.Nat.{_-_, _≤_, _<_};
 ghost use lib.ListN.{length, take, drop};
 
 // Reads a frame. Its data go into the room's first bytes, and the rest of the room stays; a
@@ -103,8 +103,9 @@ fn framing(frame: &[u8]) -> Judged
     if stray_end(bytes) {
         return Judged::Unsound(Fault::StrayEnd);
     }
-    if bad_substitution(bytes) {
-        return Judged::Unsound(Fault::BadSubstitution);
+    let place = bad_place(frame);
+    if place < frame.len() {
+        return Judged::Unsound(Fault::BadSubstitution(place));
     }
     Judged::Sound
 }
@@ -153,26 +154,33 @@ fn stray_end(bytes: &[u8]) -> bool
     false
 }
 
-fn bad_substitution(bytes: &[u8]) -> bool
-    ensures { λ r. ⌜ r ≡ hasBadSubstitution false (now (bytes .entry)) ⌝ }
+// The place of the first faulty 94; the frame's length where there is none.
+fn bad_place(frame: &[u8]) -> usize
+    ensures { λ r. ⌜ r ≡ badPlace (now (frame .entry)) ⌝ }
 {
-    let mut after = false;
     let mut i = 0;
-    while i < bytes.len() {
-        if bad_after(after, bytes[i]) {
-            return true;
+    while i < frame.len() {
+        if is_faulty(frame, i) {
+            return i;
         }
-        after = bytes[i] == SUBSTITUTION;
         i += 1;
     }
-    after
+    i
 }
 
-// Whether a byte is wrong where it stands: `after` says that a 94 came last.
-fn bad_after(after: bool, byte: u8) -> bool
-    ensures { λ r. ⌜ r ≡ isBad after byte ⌝ }
+// Whether at a place stands a 94 whose next byte does not make a right pair with it.
+fn is_faulty(frame: &[u8], at: usize) -> bool
+    requires { ⌜ at < length (now frame) ⌝ }
+    ensures { λ r. ⌜ r ≡ isFaulty (now (frame .entry)) at ⌝ }
 {
-    after && !is_substitute(byte)
+    if frame[at] != SUBSTITUTION {
+        return false;
+    }
+    let next = at + 1;
+    if next < frame.len() {
+        return !is_substitute(frame[next]);
+    }
+    true
 }
 
 // 94 stands for 10, 13 or 94 only with one of these after it.

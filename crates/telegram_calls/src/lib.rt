@@ -41,7 +41,9 @@ fn read_now(frame: &[u8], room: &mut [u8], out: &mut [u8]) -> usize {
 
 fn read_fields(answer: Reading, out: &mut [u8]) -> usize {
     match answer {
-        Reading::Refused(fault) => answers::refused(out, telegram::number(fault)),
+        Reading::Refused(fault) => {
+            answers::refused_at(out, telegram::number(fault), telegram::place(fault))
+        }
         Reading::Telegram(t) => fields(t, out),
     }
 }

@@ -1,6 +1,6 @@
 -- `of_reading` tells a reading in numbers.
 -- Assumes nothing.
-use mathlib.Core.Path.{sym, ap, _∙_}
+use mathlib.Core.Path.{sym, ap, ap₂, _∙_}
 use borrow.Author.Needs.{needs}
 use Rattle.kamzhor.specs.Host.{frameNumber, frameGiven}
 use Rattle.kamzhor.proofs.of_reading.Statement.{statement}
@@ -12,6 +12,9 @@ enum-known-reading c = search needs
 number-requires : tie.Need-number-requires
 number-requires c κs = search needs
 
+place-requires : tie.Need-place-requires
+place-requires c κs = search needs
+
 frame-number-requires : tie.Need-frame-number-requires
 frame-number-requires c κs = search needs
 
@@ -20,8 +23,9 @@ enum-known-reading-2 c = search needs
 
 returns : tie.Need-returns
 returns c =
-    let number = c .before in
-    c .frame-number .ensures ∙ ap frameNumber (number .number .ensures) ∙ sym (ap frameGiven (number .before .before .reading .given .1))
+    let placed = c .before in
+    let number = placed .before in
+    c .frame-number .ensures ∙ ap₂ frameNumber (number .number .ensures) (placed .place .ensures) ∙ sym (ap frameGiven (number .before .before .reading .given .1))
 
 returns-2 : tie.Need-returns-2
 returns-2 c = sym (ap frameGiven (c .before .reading2 .given .1))
@@ -32,6 +36,7 @@ of-reading-spec =
     (tie.spec
     enum-known-reading
     number-requires
+    place-requires
     frame-number-requires
     enum-known-reading-2
     returns

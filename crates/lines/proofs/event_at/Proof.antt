@@ -1,6 +1,6 @@
 use native.Mathlib.Omega.{arith}
 use borrow.Author.Needs.{needs}
-use Rattle.lines.proofs.Pieces.{event-put, refused-put}
+use Rattle.lines.proofs.Pieces.{event-put}
 use Rattle.lines.specs.declared.Event.the-variants.{Read, Refused, Dropped, Open}
 use Rattle.lines.proofs.event_at.Statement.{statement}
 use Rattle.lines.proofs.event_at.Tie as tie
@@ -14,17 +14,8 @@ fields-requires c κs = search needs
 enum-known-event-2 : tie.Need-enum-known-event-2
 enum-known-event-2 c = search needs
 
-slice-aggregate-labelled : tie.Need-slice-aggregate-labelled
-slice-aggregate-labelled c = search needs
-
-number-requires : tie.Need-number-requires
-number-requires c κs = search needs
-
-cast-labelled : tie.Need-cast-labelled
-cast-labelled c = search needs
-
-labelled-requires : tie.Need-labelled-requires
-labelled-requires c κs = search needs
+refused-requires : tie.Need-refused-requires
+refused-requires c κs = search needs
 
 enum-told : tie.Need-enum-told
 enum-told c = search needs
@@ -57,11 +48,8 @@ same-length-2 c = search needs
 
 returns-2 : tie.Need-returns-2
 returns-2 c =
-    let event2 = c .before .before .before .before .before .before .before .event2 in (
-      event-put _ (Refused (event2 .given .0 .0)) _ _ _ _ (event2 .given .1)
-          (refused-put (event2 .given .0 .0) _ _ _ _ _ (c .before .before .before .before .number .ensures) (c .before .before .labelled .ensures .0)),
-      omega arith,
-    )
+    let event2 = c .before .before .before .before .before .event2 in
+    (event-put _ (Refused (event2 .given .0 .0)) _ _ _ _ (event2 .given .1) (c .before .before .refused .ensures .0), c .before .before .refused .ensures .1)
 
 same-length-3 : tie.Need-same-length-3
 same-length-3 c = search needs
@@ -82,10 +70,7 @@ event-at-spec =
     enum-known-event
     fields-requires
     enum-known-event-2
-    slice-aggregate-labelled
-    number-requires
-    cast-labelled
-    labelled-requires
+    refused-requires
     enum-told
     slice-aggregate-word
     word-requires

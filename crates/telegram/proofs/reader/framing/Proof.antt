@@ -1,7 +1,8 @@
 use mathlib.Core.Path.{sym, _∙_}
 use borrow.Author.Needs.{needs}
 use Rattle.telegram.proofs.reader.framing.Statement.{statement}
-use Rattle.telegram.proofs.Judge.{framed-two, past-2}
+use Rattle.telegram.proofs.Faulty.{judged-bad, judged-good}
+use Rattle.telegram.proofs.Judge.{framed-two}
 use Rattle.telegram.proofs.reader.framing.Tie as tie
 
 not-framed-requires : tie.Need-not-framed-requires
@@ -19,24 +20,22 @@ stray-end-requires c κs = search needs
 returns-2 : tie.Need-returns-2
 returns-2 c = rw (← c .before .before .before .before .not-framed .ensures, c .before .before .before .if1 .left, ← c .before .before .inside .ensures, ← c .before .stray-end .ensures, c .if2 .taken)
 
-bad-substitution-requires : tie.Need-bad-substitution-requires
-bad-substitution-requires c κs = search needs
+bad-place-requires : tie.Need-bad-place-requires
+bad-place-requires c κs = search needs
 
 returns-3 : tie.Need-returns-3
 returns-3 c =
     let stray = c .before .before .before in
     let ends = c .before .before .before .before .before .before in
-    let past = past-2 (ends .before .before .args .frame .now) (ends .not-framed .ensures) (c .before .before .before .before .before .if1 .left) (stray .before .inside .ensures)
-    (stray .stray-end .ensures) (c .before .before .if2 .left) in
-    rw (past, ← c .before .bad-substitution .ensures, c .if3 .taken)
+    judged-bad (ends .before .before .args .frame .now) (ends .not-framed .ensures) (c .before .before .before .before .before .if1 .left)
+    (stray .before .inside .ensures) (stray .stray-end .ensures) (c .before .before .if2 .left) (c .before .bad-place .ensures) (c .if3 .taken)
 
 returns-4 : tie.Need-returns-4
 returns-4 c =
     let stray = c .before .before .before in
     let ends = c .before .before .before .before .before .before in
-    let past = past-2 (ends .before .before .args .frame .now) (ends .not-framed .ensures) (c .before .before .before .before .before .if1 .left) (stray .before .inside .ensures)
-    (stray .stray-end .ensures) (c .before .before .if2 .left) in
-    rw (past, ← c .before .bad-substitution .ensures, c .if3 .left)
+    judged-good (ends .before .before .args .frame .now) (ends .not-framed .ensures) (c .before .before .before .before .before .if1 .left)
+    (stray .before .inside .ensures) (stray .stray-end .ensures) (c .before .before .if2 .left) (c .before .bad-place .ensures) (c .if3 .left)
 
 pub framing-spec : {M : Type 1} → statement M
 framing-spec =
@@ -47,6 +46,6 @@ framing-spec =
     inside-requires
     stray-end-requires
     returns-2
-    bad-substitution-requires
+    bad-place-requires
     returns-3
     returns-4)
