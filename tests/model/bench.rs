@@ -1,6 +1,6 @@
 //! The bench module: one address and up to 32 registers, to test against.
 
-use crate::telegram::{self, lowest, Message, No, MOST_DATA};
+use crate::telegram::{self, lowest, Message, No, Refusal, MOST_DATA};
 use crate::values;
 use std::collections::BTreeMap;
 
@@ -64,8 +64,8 @@ impl Bench {
         Ok(())
     }
 
-    /// Answers a telegram into a buffer with this room: 1 to 5, 7 to 9, 35, 36, 37 mean silence.
-    pub fn tele(&mut self, frame: &[u8], room: usize) -> Result<Vec<u8>, No> {
+    /// Answers a telegram into a buffer with this room: 1 to 5, 7 to 9, 35, 36, 37 mean silence, 3 with its place.
+    pub fn tele(&mut self, frame: &[u8], room: usize) -> Result<Vec<u8>, Refusal> {
         let asked = telegram::read(frame, MOST_DATA)?;
         lowest(&[(35, asked.dest != self.address), (36, [0, 1, 2, 3, 8].contains(&asked.type_no))])?;
         let outcome = self.outcome(&asked);

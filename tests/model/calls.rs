@@ -5,7 +5,7 @@ use crate::catalogue;
 use crate::desk::{Desk, Request, Ticket};
 use crate::receiver::{Fed, Receiver};
 use crate::remainder::remainder;
-use crate::telegram::{self, Message, No};
+use crate::telegram::{self, Message, No, Refusal};
 use crate::values;
 use crate::varia::{self, Closing, Edge, Out, Shown, Varia, Wish};
 
@@ -234,7 +234,7 @@ impl Rehearsal {
     /// Runs a call and formats its answer.
     fn run(&mut self, call: Call) -> String {
         match call {
-            Call::Rem { bytes } => plain(Ok(format!("rem={}", remainder(&bytes)))),
+            Call::Rem { bytes } => ok(format!("rem={}", remainder(&bytes))),
             Call::Read { frame, buf } => lent(buf, |room| telegram::read(&frame, room).map(read_fields)),
             Call::Write { message, buf } => lent(buf, |room| telegram::write(&message, room).map(length_field)),
             Call::ValGet { kind, bytes, index } => {
@@ -249,20 +249,20 @@ impl Rehearsal {
                 Some(bench) => run_on_bench(bench, call),
                 None => "no bench".to_string(),
             },
-            Call::DeskNew => plain(Ok(self.new_desk())),
+            Call::DeskNew => ok(self.new_desk()),
             Call::DeskOpen { request, buf } => lent(buf, |room| self.desk.open(&request, room).map(open_fields)),
             Call::DeskReply { frame, buf } => lent(buf, |room| self.reply(&frame, room).map(reply_fields)),
             Call::DeskCancel { job, address, clock } => plain(self.cancel(job, address, clock).map(closed_fields)),
             Call::DeskExpire { clock } => plain(self.expire(clock).map(closed_fields)),
-            Call::DeskDump => plain(Ok(desk_fields(&self.desk))),
-            Call::VariaNew { job, module } => plain(Ok(self.new_varia(job, module))),
+            Call::DeskDump => ok(desk_fields(&self.desk)),
+            Call::VariaNew { job, module } => ok(self.new_varia(job, module)),
             Call::OnVaria(call) => match &mut self.varia {
                 Some(varia) => run_on_varia(varia, &mut self.desk, call),
                 None => "no box".to_string(),
             },
-            Call::RxNew { place } => plain(Ok(self.new_receiver(place))),
+            Call::RxNew { place } => ok(self.new_receiver(place)),
             Call::RxFeed { chunk } => fed(self.receiver.feed(&chunk)),
-            Call::RxEnd => plain(Ok(format!("text={}", self.receiver.rest().replace('\n', "\\n")))),
+            Call::RxEnd => ok(format!("text={}", self.receiver.rest().replace('\n', "\\n"))),
         }
     }
 
@@ -293,7 +293,7 @@ impl Rehearsal {
     }
 
     /// Books a reply at the desk and tells the box.
-    fn reply(&mut self, frame: &[u8], room: usize) -> Result<(u32, Message), No> {
+    fn reply(&mut self, frame: &[u8], room: usize) -> Result<(u32, Message), Refusal> {
         let (job, reply) = self.desk.reply(frame, room)?;
         self.tell(reply.dest, Closing::Booked(reply.type_no));
         Ok((job, reply))
@@ -326,7 +326,7 @@ fn run_on_bench(bench: &mut Bench, call: BenchCall) -> String {
         BenchCall::Add { register, kind, rights } => plain(bench.add(register, kind, rights).map(|()| String::new())),
         BenchCall::Set { register, value } => plain(bench.set(register, value).map(|()| String::new())),
         BenchCall::Tele { frame, buf } => lent(buf, |room| bench.tele(&frame, room).map(length_field)),
-        BenchCall::Dump => plain(Ok(bench_fields(bench))),
+        BenchCall::Dump => ok(bench_fields(bench)),
     }
 }
 
@@ -337,22 +337,33 @@ fn run_on_varia(varia: &mut Varia, desk: &mut Desk, call: VariaCall) -> String {
             lent(buf, |room| varia.ask(desk, wish, wait, clock, room).map(open_fields))
         }
         VariaCall::Display { fresh, kept } => plain(varia::display(&fresh, &kept).map(display_fields)),
-        VariaCall::Moving { status } => plain(Ok(format!("moving={}", u8::from(varia::is_moving(status))))),
-        VariaCall::Dump => plain(Ok(varia_fields(varia))),
+        VariaCall::Moving { status } => ok(format!("moving={}", u8::from(varia::is_moving(status)))),
+        VariaCall::Dump => ok(varia_fields(varia)),
     }
 }
 
-/// `ok` and its fields, or `no` and its number.
-fn plain(result: Result<String, No>) -> String {
-    match result {
-        Ok(fields) if fields.is_empty() => "ok".to_string(),
-        Ok(fields) => format!("ok {fields}"),
-        Err(no) => format!("no {no}"),
+/// `ok` and its fields.
+fn ok(fields: String) -> String {
+    match fields.is_empty() {
+        true => "ok".to_string(),
+        false => format!("ok {fields}"),
+    }
+}
+
+/// `ok` and its fields, or `no` and its number, with its place where it has one.
+fn plain(result: Result<String, impl Into<Refusal>>) -> String {
+    match result.map_err(Into::into) {
+        Ok(fields) => ok(fields),
+        Err(Refusal { no, place: None }) => format!("no {no}"),
+        Err(Refusal { no, place: Some(place) }) => format!("no {no} place={place}"),
     }
 }
 
 /// The same for a call with a lent buffer: what it hands over goes to the first bytes, a refusal touches none.
-fn lent(mut buf: Vec<u8>, call: impl FnOnce(usize) -> Result<(String, Vec<u8>), No>) -> String {
+fn lent<R: Into<Refusal>>(
+    mut buf: Vec<u8>,
+    call: impl FnOnce(usize) -> Result<(String, Vec<u8>), R>,
+) -> String {
     let result = call(buf.len());
     if let Ok((_, bytes)) = &result {
         buf[..bytes.len()].copy_from_slice(bytes);

@@ -2,7 +2,10 @@
 
 use crate::bench::Bench;
 use crate::desk::{Desk, Request};
-use crate::faults::{all_substituted, damage, data, flip_within_16, frame_of, longest, message, runaway, spoil, tiny};
+use crate::faults::{
+    all_substituted, break_in, broken, damage, data, filled, flip_within_16, frame_of, longest, message, runaway, spoil,
+    tiny, BREAKS,
+};
 use crate::random::Random;
 use crate::telegram::{frame, Message, No, END, LONGEST_TELEGRAM, MOST_DATA, START};
 use crate::values::KINDS;
@@ -54,7 +57,7 @@ pub fn capture(seed: u64) -> Vec<u8> {
         0 => tiny(&mut line.random),
         1 => record(&mut line, &[noise], short),
         2 => record(&mut line, &[exchange], short),
-        3 => record(&mut line, &[damaged, spoiled, exchange], short),
+        3 => record(&mut line, &[damaged, spoiled, badly_substituted, exchange], short),
         4 => record(&mut line, &[cut, exchange], short),
         5 => record(&mut line, &[too_long, exchange], 5 * short),
         6 => record(&mut line, &[starts, exchange], short),
@@ -63,7 +66,7 @@ pub fn capture(seed: u64) -> Vec<u8> {
         9 => record(&mut line, &ANY, 65536),
         10 => record(&mut line, &ANY, 65537),
         11 => record(&mut line, &ANY, around),
-        12 => record(&mut line, &[near_limit, exchange], 10_000 + short),
+        12 => record(&mut line, &[near_limit, broken_near_limit, exchange], 10_000 + short),
         13 => ended_runaway(&mut line, short, 100_000 + short, END),
         14 => ended_runaway(&mut line, short, 100_000 + short, START),
         15 => open_runaway(&mut line, short, 100_000 + short),
@@ -83,11 +86,12 @@ pub fn short(seed: u64) -> Vec<u8> {
         2 | 3 => record(&mut line, &[exchange], few),
         4 => record(&mut line, &[starts, exchange], few),
         5 => record(&mut line, &ANY, few),
-        6 => record(&mut line, &[damaged, spoiled, exchange], some),
+        6 => record(&mut line, &[damaged, spoiled, badly_substituted, exchange], some),
         7 => record(&mut line, &[cut, exchange], some),
         8 => record(&mut line, &NIGHT, some),
         9 => record(&mut line, &ANY, some),
-        10 | 11 => [near_limit(&mut line), exchange(&mut line)].concat(),
+        10 => [near_limit(&mut line), exchange(&mut line)].concat(),
+        11 => [broken_near_limit(&mut line), exchange(&mut line)].concat(),
         12 => ended_runaway(&mut line, few, many, END),
         13 => ended_runaway(&mut line, few, many, START),
         _ => open_runaway(&mut line, few, many),
@@ -188,6 +192,12 @@ fn spoiled(line: &mut Line) -> Vec<u8> {
     spoil(&mut line.random, &message, row)
 }
 
+/// Frames whose substitution is broken in some way.
+fn badly_substituted(line: &mut Line) -> Vec<u8> {
+    let (message, way) = (message(&mut line.random), line.random.pick(&BREAKS));
+    broken(&mut line.random, &message, way).concat()
+}
+
 /// A frame that breaks off.
 fn cut(line: &mut Line) -> Vec<u8> {
     let mut frame = message(&mut line.random).telegram();
@@ -211,6 +221,15 @@ fn near_limit(line: &mut Line) -> Vec<u8> {
         3 | 4 => frame_of(&mut line.random, LONGEST_TELEGRAM),
         _ => frame_of(&mut line.random, LONGEST_TELEGRAM + 1),
     }
+}
+
+/// A frame of such a length whose substitution is broken in some way.
+fn broken_near_limit(line: &mut Line) -> Vec<u8> {
+    let length = LONGEST_TELEGRAM - 1 + line.random.below(3);
+    let mut frame = filled(&mut line.random, length);
+    let way = line.random.pick(&BREAKS);
+    break_in(&mut line.random, &mut frame, way);
+    frame
 }
 
 /// Many starts, now and then an end or a byte between them.

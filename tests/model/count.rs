@@ -2,6 +2,7 @@
 
 use crate::calls::lines;
 use crate::filters::Filters;
+use crate::places::Places;
 use crate::rests::Rests;
 use crate::telegram::No;
 use std::collections::BTreeMap;
@@ -62,7 +63,7 @@ fn name(line: &[u8]) -> &'static str {
     ORDERS.iter().map(|(name, _)| *name).find(|name| name.as_bytes() == first).unwrap_or(NO_CALL)
 }
 
-/// The way an answer line answers.
+/// The way an answer line answers. Number 3 has a place, and no other number has one.
 fn way(answer: &[u8]) -> Way {
     let text = String::from_utf8_lossy(answer);
     let words: Vec<&str> = text.split(' ').collect();
@@ -71,7 +72,9 @@ fn way(answer: &[u8]) -> Way {
         ["no", "bench"] => Way::NoBench,
         ["no", "box"] => Way::NoBox,
         ["ok", ..] => Way::Ok,
-        ["no", number, ..] => number.parse().map_or(Way::Unknown, Way::No),
+        ["no", number, ..] if (number == "3") == words.iter().any(|word| word.starts_with("place=")) => {
+            number.parse().map_or(Way::Unknown, Way::No)
+        }
         _ => Way::Unknown,
     }
 }
@@ -93,11 +96,13 @@ pub fn count(script: &[u8], answers: &[u8]) -> (String, bool) {
     complaints.extend(rests.missing());
     let filters = Filters::of(&calls, &answers);
     complaints.extend(filters.missing());
+    let places = Places::of(&calls, &answers);
+    complaints.extend(places.missing());
     if calls.len() != answers.len() {
         complaints.push(format!("{} calls but {} answers", calls.len(), answers.len()));
     }
     let told: String = complaints.iter().map(|line| format!("{line}\n")).collect();
-    let met = borders_line(over_borders) + &rests.lines() + &filters.lines();
+    let met = borders_line(over_borders) + &rests.lines() + &filters.lines() + &places.lines();
     (table(&counts) + &met + &told, complaints.is_empty())
 }
 

@@ -8,6 +8,11 @@ use crate::vectors::SAMPLE_CAPTURE;
 
 /// The chunks of the call scripts' example, joined.
 const EXAMPLE_CAPTURE: [u8; 10] = [0x0D, 0xA2, 0x0F, 0x03, 0x0D, 0x30, 0x48, 0x2F, 0x0A, 0x0D];
+/// Frames with a faulty 94: after a right pair and before one, the last byte before the end, the first after the start
+/// and another, and one that a second start drops.
+const BROKEN_CAPTURE: [u8; 25] = [
+    13, 94, 74, 94, 94, 74, 10, 13, 162, 15, 94, 158, 94, 10, 13, 94, 65, 94, 64, 10, 13, 94, 13, 94, 10,
+];
 /// A capture of more bytes is not cut everywhere.
 const CUT_EVERYWHERE: usize = 100;
 /// How near to its ends and to the longest telegram's end such a capture is cut.
@@ -20,6 +25,7 @@ fn captures() -> Vec<Vec<u8>> {
         SAMPLE_CAPTURE.to_vec(),
         EXAMPLE_CAPTURE.to_vec(),
         vec![START, START, END],
+        BROKEN_CAPTURE.to_vec(),
         longest().telegram(),
         all_substituted().telegram(),
         wrong_frame(LONGEST_TELEGRAM),

@@ -1,6 +1,6 @@
 //! The ticket desk: each request gets a host address of its own, each reply is booked on one ticket.
 
-use crate::telegram::{self, lowest, Message, No, MOST_DATA};
+use crate::telegram::{self, lowest, Message, No, Refusal, MOST_DATA};
 use std::collections::BTreeMap;
 
 pub const FIRST_HOST: u8 = 161;
@@ -139,9 +139,9 @@ impl Desk {
         Ok((address, telegram))
     }
 
-    /// Books a reply, with this room for its data: 1 to 9, then 61 or 17, then 18 to 20. Answers the job and
-    /// the reply. The address is free at once.
-    pub fn reply(&mut self, frame: &[u8], room: usize) -> Result<(u32, Message), No> {
+    /// Books a reply, with this room for its data: 1 to 9, 3 with its place, then 61 or 17, then 18 to 20. Answers
+    /// the job and the reply. The address is free at once.
+    pub fn reply(&mut self, frame: &[u8], room: usize) -> Result<(u32, Message), Refusal> {
         let reply = telegram::read(frame, room)?;
         let without = if self.closed.contains_key(&reply.dest) { 61u32 } else { 17 };
         let ticket = self.tickets.get(&reply.dest).ok_or(without)?;

@@ -5,6 +5,21 @@ use crate::telegram::{self, with_remainder, Message, No, CODES, END, MOST_DATA, 
 
 /// The bytes that are substituted.
 const SPECIALS: [u8; 3] = [START, END, SUBSTITUTION];
+/// Bytes that are wrong after a 94.
+const NO_CODES: [u8; 11] = [65, 64, 73, 75, 76, 78, 94, 157, 159, 0, 255];
+
+/// Which 94s of a frame are faulty: the first byte after the start, the last one before the end, two, one with a right
+/// pair before it, or one before a right pair's own.
+#[derive(Clone, Copy)]
+pub enum Break {
+    First,
+    Last,
+    Two,
+    AfterAPair,
+    Doubled,
+}
+
+pub const BREAKS: [Break; 5] = [Break::First, Break::Last, Break::Two, Break::AfterAPair, Break::Doubled];
 
 /// An address that is not 0, near a limit or a special byte in half of the cases.
 pub fn address(random: &mut Random) -> u8 {
@@ -155,9 +170,48 @@ fn put_wrong_substitution(random: &mut Random, frame: &mut Vec<u8>) {
     if random.one_in(3) {
         frame.insert(frame.len() - 1, SUBSTITUTION);
     } else {
-        let wrong = random.pick(&[65, 64, 73, 75, 76, 78, 94, 157, 159, 0, 255]);
+        let wrong = random.pick(&NO_CODES);
         put_between(random, frame, &[SUBSTITUTION, wrong]);
     }
+}
+
+/// Overwrites bytes between the ends of a frame of at least 8 bytes, so that its substitution breaks in this way. What
+/// is overwritten may have been a part of a pair, and then the break is another one.
+pub fn break_in(random: &mut Random, frame: &mut [u8], way: Break) {
+    let last = frame.len() - 2;
+    let (code, wrong) = (random.pick(&CODES), random.pick(&NO_CODES));
+    let mut put = |place: usize, bytes: &[u8]| frame[place..place + bytes.len()].copy_from_slice(bytes);
+    match way {
+        Break::First => put(1, &[SUBSTITUTION, wrong]),
+        Break::Last => put(last, &[SUBSTITUTION]),
+        Break::Two => {
+            put(random.between(1, last - 1), &[SUBSTITUTION, wrong]);
+            put(random.between(1, last), &[SUBSTITUTION]);
+        }
+        Break::AfterAPair => {
+            put(1, &[SUBSTITUTION, code]);
+            put(random.between(3, last - 1), &[SUBSTITUTION, wrong]);
+        }
+        Break::Doubled => put(random.between(1, last - 2), &[SUBSTITUTION, SUBSTITUTION, code]),
+    }
+}
+
+/// A frame of so many bytes, both ends included, with none between them that is substituted.
+pub fn filled(random: &mut Random, length: usize) -> Vec<u8> {
+    let plain = |byte| if SPECIALS.contains(&byte) { 65 } else { byte };
+    let between = random.bytes(length - 2).into_iter().map(plain);
+    [START].into_iter().chain(between).chain([END]).collect()
+}
+
+/// Frames of this message with their substitution broken in this way: one as it is, one with a mark between its ends as
+/// well, so that it is 2, and one with more data than a telegram has.
+pub fn broken(random: &mut Random, message: &Message, way: Break) -> [Vec<u8>; 3] {
+    let long = Message { data: random.bytes(700), ..message.clone() };
+    let mut frames = [message.telegram(), message.telegram(), long.telegram()];
+    frames.iter_mut().for_each(|frame| break_in(random, frame, way));
+    let mark = random.pick(&[START, END]);
+    put_between(random, &mut frames[1], &[mark]);
+    frames
 }
 
 /// Row 1: another first or last byte, a missing one, or next to nothing left.

@@ -1,6 +1,6 @@
 //! The night listing of a captured line: one reading of all its bytes joined.
 
-use crate::telegram::{self, Message, No, END, LONGEST_TELEGRAM, MOST_DATA, START};
+use crate::telegram::{self, Message, Refusal, END, LONGEST_TELEGRAM, MOST_DATA, START};
 
 /// The first line, without its newline.
 pub const HEADER: &str = "Interbus capture";
@@ -8,7 +8,7 @@ pub const HEADER: &str = "Interbus capture";
 /// What became of a frame that a 13 opened.
 pub enum Fate {
     Read(Message),
-    Refused(No),
+    Refused(Refusal),
     Dropped,
     Open,
 }
@@ -18,7 +18,7 @@ impl Fate {
     pub fn of(frame: &[u8]) -> Fate {
         match telegram::read(frame, MOST_DATA) {
             Ok(message) => Fate::Read(message),
-            Err(no) => Fate::Refused(no),
+            Err(refusal) => Fate::Refused(refusal),
         }
     }
 
@@ -29,7 +29,8 @@ impl Fate {
                 let Message { dest, source, type_no, register, data } = read;
                 format!("at {place} ok {dest} {source} {type_no} {register} {}", data.len())
             }
-            Fate::Refused(no) => format!("at {place} refused {no}"),
+            Fate::Refused(Refusal { no, place: None }) => format!("at {place} refused {no}"),
+            Fate::Refused(Refusal { no, place: Some(wrong) }) => format!("at {place} refused {no} in {wrong}"),
             Fate::Dropped => format!("at {place} dropped"),
             Fate::Open => format!("at {place} open"),
         }
@@ -47,12 +48,12 @@ fn next_mark(capture: &[u8], place: usize) -> Option<usize> {
 }
 
 /// The fate of the frame whose 13 stands at this place: a second 13 drops it, a 10 closes it. A closed one is read,
-/// but over 494 bytes it is refused 5, ahead of all the reader might say.
+/// but over 494 bytes it is refused 5, ahead of all the reader might say, and without a place.
 fn fate(capture: &[u8], place: usize) -> Fate {
     match next_mark(capture, place) {
         None => Fate::Open,
         Some(next) if capture[next] == START => Fate::Dropped,
-        Some(next) if next + 1 - place > LONGEST_TELEGRAM => Fate::Refused(5),
+        Some(next) if next + 1 - place > LONGEST_TELEGRAM => Fate::Refused(5.into()),
         Some(next) => Fate::of(&capture[place..=next]),
     }
 }

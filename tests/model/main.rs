@@ -11,6 +11,7 @@ mod desk;
 mod faults;
 mod filters;
 mod listing;
+mod places;
 mod random;
 mod receiver;
 mod remainder;

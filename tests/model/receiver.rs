@@ -97,7 +97,7 @@ impl Receiver {
             frame.kept.push(END);
             Fate::of(&frame.kept)
         } else {
-            Fate::Refused(5)
+            Fate::Refused(5.into())
         };
         match fate {
             Fate::Read(_) => self.read += 1,

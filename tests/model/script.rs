@@ -72,6 +72,15 @@ const VARIA_ROUND: [Section; 10] = [
     varia_walk::at_the_bench,
 ];
 
+/// The sections on frames whose substitution is broken, after those on the filter box, with a generator of their own as
+/// well.
+const PLACE_ROUND: [Section; 4] = [
+    telegrams::broken_frames,
+    bench_walk::broken_telegrams,
+    desk_walk::broken_replies,
+    receiver_walk::broken_frames,
+];
+
 /// The script of a seed, of so many lines, each ended by one newline.
 pub fn write(seed: u64, calls: usize) -> Vec<u8> {
     let mut script = Script { random: Random::new(seed), rehearsal: Rehearsal::new(), lines: Vec::new() };
@@ -81,10 +90,12 @@ pub fn write(seed: u64, calls: usize) -> Vec<u8> {
     varia_walk::no_box_yet(&mut script);
     let mut receiver_random = Random::new(!seed);
     let mut varia_random = Random::new(seed.rotate_left(32) ^ 0x5641_5249_4100);
+    let mut place_random = Random::new(!seed.rotate_left(32) ^ 0x504C_4143_4500);
     while script.lines.len() < calls {
         script.round(ROUND);
         script.round_with(&mut receiver_random, RECEIVER_ROUND);
         script.round_with(&mut varia_random, VARIA_ROUND);
+        script.round_with(&mut place_random, PLACE_ROUND);
     }
     script.lines.truncate(calls);
     script.lines.iter().flat_map(|line| [line.as_slice(), b"\n"].concat()).collect()

@@ -5,6 +5,21 @@ use crate::remainder::remainder;
 /// A number from the table of what can't be done.
 pub type No = u32;
 
+/// What a call that reads a frame is refused with: the number, and with number 3 the place in the frame of the first
+/// faulty 94, the start byte's being 0. No other number has a place.
+#[derive(Clone, Copy)]
+pub struct Refusal {
+    pub no: No,
+    pub place: Option<usize>,
+}
+
+impl From<No> for Refusal {
+    /// A number without a place.
+    fn from(no: No) -> Refusal {
+        Refusal { no, place: None }
+    }
+}
+
 pub const START: u8 = 13;
 pub const END: u8 = 10;
 pub const SUBSTITUTION: u8 = 94;
@@ -80,12 +95,14 @@ pub fn write(message: &Message, room: usize) -> Result<Vec<u8>, No> {
 }
 
 /// Reads a frame with this room for its data. A message exists only where rows 1 to 3 do not apply.
-pub fn read(frame: &[u8], room: usize) -> Result<Message, No> {
-    lowest(&[
+pub fn read(frame: &[u8], room: usize) -> Result<Message, Refusal> {
+    let wrong: Vec<usize> = (1..=between(frame).len()).filter(|place| is_wrong_substitution(frame, *place)).collect();
+    let refused = lowest(&[
         (1, not_from_start_to_end(frame)),
         (2, between(frame).iter().any(|byte| [START, END].contains(byte))),
-        (3, (0..between(frame).len()).any(|place| is_wrong_substitution(frame, place + 1))),
-    ])?;
+        (3, !wrong.is_empty()),
+    ]);
+    refused.map_err(|no| Refusal { no, place: wrong.iter().copied().min().filter(|_| no == 3) })?;
     let message = restored(between(frame));
     lowest(&[
         (4, message.len() < 6),

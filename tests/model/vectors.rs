@@ -4,7 +4,7 @@ use crate::bench::Bench;
 use crate::calls::{answers, hex};
 use crate::faults::{all_substituted, longest, wrong_frame};
 use crate::listing::list;
-use crate::telegram::{frame, Message};
+use crate::telegram::{frame, Message, Refusal};
 
 /// A fact by name, what the model makes of it, and what the paper says.
 struct Check {
@@ -56,6 +56,19 @@ ok job=7 address=161
 no 61 buf=0000
 ok turn=162 tickets=- closed=161:40
 ok address=162 n=8 buf=0d0fa20466c7b60a00000000
+";
+
+/// The part of the same example that is about number 3's place.
+const PLACE_CALLS: &str = "\
+desk.open 7 15 4 102 - 1000 3 0 000000000000000000000000
+desk.reply 0da10f08665e41965b0a 0000
+desk.cancel 7 161 40
+";
+
+const PLACE_ANSWERS: &str = "\
+ok address=161 n=8 buf=0d0fa104669ee60a00000000
+no 3 place=5 buf=0000
+ok job=7 address=161
 ";
 
 /// The part of the same example that is about the filter box, after that about rests.
@@ -118,6 +131,9 @@ pub fn report() -> (String, bool) {
         filter_edges(),
         listings(),
         long_frames(),
+        places(),
+        placed_calls(),
+        placed_lines(),
         receivers(),
         last_places(),
     ]
@@ -160,7 +176,7 @@ fn table_facts() -> Vec<Check> {
         remainder_is("T4 remainder of A2 0A 08 11 5E 91", "a20a08115e91", 0x637E),
         Check { name: "T5 substituted and framed", got: hex(&substituted), want: "0d5e4a4205325e4d9cf00a".to_string() },
         calls("T6 frame 0D 0A", "read 0d0a a1a2", "no 4 buf=a1a2"),
-        calls("T7 frame 0D 5E 41 0A", "read 0d5e410a a1a2", "no 3 buf=a1a2"),
+        calls("T7 frame 0D 5E 41 0A", "read 0d5e410a a1a2", "no 3 place=1 buf=a1a2"),
         calls("T8 one bit of the remainder amiss", "read 0d0fa20466c7b70a a1", "no 7 buf=a1"),
         calls("T9 I16 of 00 80", "val.get 4 0080 0", "ok value=-32768"),
         calls("T10 U16 of 5E 91", "val.get 3 5e91 0", "ok value=37214"),
@@ -179,13 +195,14 @@ fn table_facts() -> Vec<Check> {
 /// The stored bytes of a U16 of 0401h on the bench after a toggle with 0400h.
 fn toggled() -> String {
     let telegram = Message { dest: 15, source: 162, type_no: 9, register: 49, data: vec![0x00, 0x04] }.telegram();
-    let on_bench = Bench::new(15).and_then(|mut bench| {
+    let on_bench = || -> Result<Vec<u8>, Refusal> {
+        let mut bench = Bench::new(15)?;
         bench.add(49, 3, 4)?;
         bench.set(49, 0x0401)?;
         bench.tele(&telegram, 240)?;
         Ok(bench.registers[&49].value.clone())
-    });
-    on_bench.map_or_else(|no| format!("no {no}"), |value| hex(&value))
+    };
+    on_bench().map_or_else(|refusal| format!("no {}", refusal.no), |value| hex(&value))
 }
 
 /// The worked examples of the manual's sections 2.2 to 2.4.
@@ -202,7 +219,7 @@ fn manual_examples() -> Vec<Check> {
         ),
         calls("example 2 reply", "read 0da25e4a0323818d0a -", "ok dest=162 src=10 type=3 reg=35 n=0 buf=-"),
         calls("example 3 request", "write 10 162 4 17 - a1a2a3a4a5a6a7a8a9", "ok n=9 buf=0d5e4aa2041175830a"),
-        calls("example 3 reply as printed", "read 0da25e4a08115e91637e0a a1a2a3", "no 3 buf=a1a2a3"),
+        calls("example 3 reply as printed", "read 0da25e4a08115e91637e0a a1a2a3", "no 3 place=6 buf=a1a2a3"),
         calls(
             "example 3 reply converted",
             "read 0da25e4a08115e9e91637e0a a1a2a3",
@@ -348,11 +365,88 @@ fn long_frames() -> Vec<Check> {
     vec![
         listed("493 bytes are read", &longest().telegram(), "at 0 ok 10 10 9 94 240\nok 1 refused 0 dropped 0"),
         listed("494 bytes are read", &all_substituted().telegram(), "at 0 refused 9\nok 0 refused 1 dropped 0"),
-        listed("494 bytes with a fault of 3", &most, "at 0 refused 3\nok 0 refused 1 dropped 0"),
+        listed("494 bytes with a fault of 3", &most, "at 0 refused 3 in 1\nok 0 refused 1 dropped 0"),
         listed("495 bytes with a fault of 3", &over, "at 0 refused 5\nok 0 refused 1 dropped 0"),
         listed("a runaway is open", runaway, "at 0 open\nok 0 refused 0 dropped 0"),
         listed("a runaway is dropped", &dropped, "at 0 dropped\nat 500 refused 4\nok 0 refused 1 dropped 1"),
-        calls("the frame reader keeps its order", &format!("read {} a1", hex(&over)), "no 3 buf=a1"),
+        calls("the frame reader keeps its order", &format!("read {} a1", hex(&over)), "no 3 place=1 buf=a1"),
+    ]
+}
+
+/// Number 3's place: the first faulty 94 between the ends, wherever it stands and whatever is before and behind it.
+fn places() -> Vec<Check> {
+    let read = |name, frame: &str, want: &str| calls(name, &format!("read {frame} a1"), &format!("{want} buf=a1"));
+    vec![
+        calls("the call scripts' example of a place", PLACE_CALLS, PLACE_ANSWERS),
+        read("94 right after the start", "0d5e000f0330482f0a", "no 3 place=1"),
+        read("94 just before the end", "0da20f0330482f5e0a", "no 3 place=7"),
+        read("94 alone", "0d5e0a", "no 3 place=1"),
+        read("two faulty ones", "0da25e410f5e42030a", "no 3 place=2"),
+        read("the second at the end", "0da20f5e41035e0a", "no 3 place=3"),
+        read("a right one before it", "0d5e4a0f5e41030a", "no 3 place=4"),
+        read("three right ones before it", "0d5e4a5e4d5e9e5e410a", "no 3 place=7"),
+        read("a right one behind it", "0da25e410f5e4a030a", "no 3 place=2"),
+        read("5E 5E 4A", "0d5e5e4a0a", "no 3 place=1"),
+        read("5E 5E 4A within", "0da20f5e5e4a030a", "no 3 place=3"),
+        read("5E 4A 5E 5E 4A", "0d5e4a5e5e4a0a", "no 3 place=3"),
+        read("5E 5E 5E 4A", "0d5e5e5e4a0a", "no 3 place=1"),
+        read("5E 5E", "0d5e5e0a", "no 3 place=1"),
+        read("5E 4A 5E", "0d5e4a5e0a", "no 3 place=3"),
+        read("5E 4A 4A", "0d5e4a4a0a", "no 4"),
+        read("a stray 13 behind it", "0da25e410f0d030a", "no 2"),
+        read("a stray 10 before it", "0d0aa25e410f030a", "no 2"),
+        read("94 and then a 13", "0da25e0d0f030a", "no 2"),
+        read("94 and then two ends", "0da20f5e0a0a", "no 2"),
+        read("no end byte", "0da20f5e41", "no 1"),
+        read("no start byte", "5e410a", "no 1"),
+    ]
+}
+
+/// The place in the answers of the bench and of the desk, which it leaves as they were, and past what a telegram has.
+fn placed_calls() -> Vec<Check> {
+    let far = format!("0d{}5e410a", "41".repeat(598));
+    let on_bench = |name, frame: &str, want: &str| {
+        calls(name, &format!("bench.new 15\nbench.tele {frame} a1"), &format!("ok\n{want} buf=a1"))
+    };
+    vec![
+        on_bench("a place on the bench", "0d0fa2045e66c7b60a", "no 3 place=4"),
+        on_bench("for another address", "0d10a2045e66c7b60a", "no 3 place=4"),
+        on_bench("past 494 on the bench", &far, "no 3 place=599"),
+        calls("past 494 in the reader", &format!("read {far} a1"), "no 3 place=599 buf=a1"),
+        calls("past 494 at the desk", &format!("desk.reply {far} a1"), "no 3 place=599 buf=a1"),
+        calls("ahead of 17", "desk.reply 0da10f08663412965b5e0a a1", "no 3 place=9 buf=a1"),
+        calls(
+            "the ticket stays open",
+            "desk.open 7 15 4 102 - 1000 3 0 a1a2a3a4a5a6a7a8\ndesk.reply 0da10f08665e41965b0a a1\ndesk.dump",
+            "ok address=161 n=8 buf=0d0fa104669ee60a\nno 3 place=5 buf=a1\n\
+             ok turn=162 tickets=161:7:15:4:102:1000:0 closed=-",
+        ),
+    ]
+}
+
+/// The place in the listing's lines: from the frame's own start byte, in up to 494 bytes, and none with 5.
+fn placed_lines() -> Vec<Check> {
+    let last = |length: usize| [vec![13], vec![65; length - 3], vec![94, 10]].concat();
+    let listed = |name, capture: &[u8], want: &str| Check {
+        name,
+        got: list(capture),
+        want: format!("Interbus capture\n{want}\nok 0 refused 1 dropped 0\n"),
+    };
+    vec![
+        listed("a place after other bytes", &[65, 94, 10, 94, 13, 162, 15, 94, 65, 10], "at 4 refused 3 in 3"),
+        listed("493 bytes, the last one", &last(493), "at 0 refused 3 in 491"),
+        listed("494 bytes, the last one", &last(494), "at 0 refused 3 in 492"),
+        listed("495 bytes, the last one", &last(495), "at 0 refused 5"),
+        calls(
+            "cut behind the 94",
+            "rx.new 1000\nrx.feed 5e0da20f5e4a5e\nrx.feed 410a\nrx.end",
+            "ok\nok lines=\nok lines=at 1001 refused 3 in 5\nok text=ok 0 refused 1 dropped 0\\n",
+        ),
+        calls(
+            "a start behind the 94",
+            "rx.feed 0d5e0d5e0a\nrx.end",
+            "ok lines=at 0 dropped;at 2 refused 3 in 1\nok text=ok 0 refused 1 dropped 1\\n",
+        ),
     ]
 }
 
@@ -370,7 +464,7 @@ fn receivers() -> Vec<Check> {
             "ok lines=at 0 ok 162 15 3 48 0;at 8 refused 4\nok text=at 10 open\\nok 1 refused 1 dropped 0\\n",
         ),
         calls("the sample byte by byte", &(each(&SAMPLE_CAPTURE) + "rx.end"), &sample_by_bytes()),
-        calls("494 bytes in chunks", &in_two(&wrong_frame(494)), "ok lines=\nok lines=at 0 refused 3"),
+        calls("494 bytes in chunks", &in_two(&wrong_frame(494)), "ok lines=\nok lines=at 0 refused 3 in 1"),
         calls("495 bytes in chunks", &in_two(&wrong_frame(495)), "ok lines=\nok lines=at 0 refused 5"),
         calls(
             "a runaway in chunks",

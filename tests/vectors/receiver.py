@@ -18,9 +18,10 @@ def remainder(data):
 def judged(frame):
     """What the listing says of a frame, from its 13 to its 10."""
     message = re.sub(rb"\x5e([\x4a\x4d\x9e])", lambda pair: bytes([pair[1][0] - 64]), frame[1:-1])
+    bad = re.search(rb"\x5e(?![\x4a\x4d\x9e])", frame[1:-1])
     faults = (
         (5, len(frame) > 494),
-        (3, re.search(rb"\x5e(?![\x4a\x4d\x9e])", frame[1:-1])),
+        (f"3 in {bad.start() + 1}" if bad else 3, bad),
         (4, len(message) < 6),
         (5, len(message) > 246),
         (7, remainder(message) != 0),
@@ -123,7 +124,13 @@ F493 = framed(longest(bytes([10, 13, 9, 94])))
 F494 = framed(longest(bytes([10, 13, 10, 94])))  # a type over 9
 ALTERED = F494[:301] + framed(b"\r")[1:3] + F494[303:]
 BROKEN = F494[:-2] + b"\x41\n"  # its last 94 is followed by 65
-FRAMES = {F493: "ok 10 13 9 94 240", F494: "refused 9", ALTERED: "refused 7", BROKEN: "refused 3", b"\r" + bytes(492) + b"\n": "refused 5"}
+FRAMES = {
+    F493: "ok 10 13 9 94 240",
+    F494: "refused 9",
+    ALTERED: "refused 7",
+    BROKEN: "refused 3 in 491",
+    b"\r" + bytes(492) + b"\n": "refused 5",
+}
 assert [len(frame) for frame in FRAMES] == [493, 494, 494, 494, 494]
 assert [judged(frame) for frame in FRAMES] == list(FRAMES.values())
 

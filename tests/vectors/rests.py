@@ -81,6 +81,7 @@ def booked(address, job=None, sort=8, register=102, data=b"\x34\x12"):
 
 
 def not_booked(number, address, source=15, sort=8, register=102, data=b"\x34\x12", room=4, frame=None):
+    """The number is one, or 3 with its place."""
     frame = frame or telegram(address, source, sort, register, data)
     say(f"desk.reply {frame.hex()} {'ee' * room or '-'}", f"no {number} buf={'ee' * room or '-'}")
 
@@ -296,7 +297,7 @@ for way in ("cancel", "expire"):
     RIGHT = telegram(161, 15, 8, 102, b"\x34\x12")
     not_booked(1, 161, frame=RIGHT[:-1])
     not_booked(2, 161, frame=RIGHT[:-1] + b"\r\n")
-    not_booked(3, 161, frame=RIGHT[:-1] + b"\x5e\n")
+    not_booked("3 place=9", 161, frame=RIGHT[:-1] + b"\x5e\n")
     not_booked(4, 161, frame=RIGHT[:5] + b"\n")
     not_booked(5, 161, frame=telegram(161, 15, 8, 102, bytes(241)))
     not_booked(6, 161, room=1)  # the reader's numbers go first

@@ -117,6 +117,30 @@ for late in (False, True):
             faults = {a, b}
             read(faulty(faults, late), 3 if 6 in faults else 300)
 
+# where a substitution broke: the first faulty 94 right after the start, just before the end, of two, after a right one and
+# before one, with a 10 or 13 too (2, without a place), without an end (1), past what a telegram has; then at the desk, on a
+# bench and in the receiver's lines
+BROKEN = (
+    "0d5e0a", "0d5ea10f08663412965b0a", "0da10f08663412965b5e0a", "0da15e41085e4212965b0a", "0da10f08665e12965b5e0a", "0d5e4a5e410a",
+    "0d5e9e5e4d5e4a5e0a", "0da15e415e4a0a", "0d5e5e4a0a", "0da10f5e5e4a12965b0a", "0d5e4a5e5e4a0a", "0d5e5e0a", "0d5e4a4a0a",
+)
+LOWER = ("0da15e410d5b0a", "0da10a5e415b0a", "0d5e0d0a", "0d5e0a0a", "0da15e415b", "5e410a")
+for frame in BROKEN + LOWER:
+    read(bytes.fromhex(frame), 3)
+LAST = [b"\x0d" + bytes([65] * (length - 3)) + b"\x5e\x0a" for length in (258, 493, 494, 495, 600)]
+for frame in LAST:
+    read(frame, 0)
+print("desk.open 7 15 4 102 - 1000 0 0", text(lent(8)))
+print("bench.new 15")
+for frame in [bytes.fromhex(frame) for frame in BROKEN + LOWER] + LAST:
+    print("desk.reply", text(frame), text(lent(2)))
+    print("bench.tele", text(frame), text(lent(2)))
+    print("rx.feed", text(frame[:-2]))
+    print("rx.feed", text(frame[-2:]))
+    print("rx.end")
+    print("rx.new 7")
+print("desk.dump")
+
 # the writer's order is 5, 8, 9, 6
 for faults in ({5}, {8}, {9}, {6}, {5, 8}, {5, 9}, {5, 6}, {8, 9}, {8, 6}, {9, 6}, {5, 8, 9, 6}):
     write(0 if 8 in faults else 15, 162, 10 if 9 in faults else 5, 48, bytes(241 if 5 in faults else 2), 3 if 6 in faults else 600)

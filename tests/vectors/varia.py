@@ -117,6 +117,7 @@ def booked(address, sort, register, data=b"", job=JOB, module=MODULE, room=4):
 
 
 def not_booked(number, address, sort, register, data=b"", module=MODULE, room=4, frame=None):
+    """The number is one, or 3 with its place."""
     frame = frame or telegram(address, module, sort, register, data)
     say(f"desk.reply {frame.hex()} {lent(room)}", f"no {number} buf={lent(room)}")
 
@@ -658,7 +659,7 @@ OUT = "168:short:7000"
 RIGHT = telegram(168, 16, ACK, SHORT)
 not_booked(1, 168, ACK, SHORT, frame=RIGHT[:-1])
 not_booked(2, 168, ACK, SHORT, frame=RIGHT[:-1] + b"\r\n")
-not_booked(3, 168, ACK, SHORT, frame=RIGHT[:-1] + b"\x5e\n")
+not_booked("3 place=7", 168, ACK, SHORT, frame=RIGHT[:-1] + b"\x5e\n")
 not_booked(4, 168, ACK, SHORT, frame=RIGHT[:4] + b"\n")
 not_booked(5, 168, ACK, SHORT, frame=telegram(168, 16, ACK, SHORT, bytes(241)))
 not_booked(6, 168, ACK, SHORT, b"\x01", room=0)

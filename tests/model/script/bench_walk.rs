@@ -4,7 +4,7 @@ use super::numbers::{fitting, number, unfitting};
 use super::{buffer, room, too_little, Script};
 use crate::bench::{Bench, MOST_REGISTERS};
 use crate::calls::hex;
-use crate::faults::{address, data, flip_within_16, spoil};
+use crate::faults::{address, broken, data, flip_within_16, spoil, BREAKS};
 use crate::random::Random;
 use crate::telegram::{frame, Message, No};
 use crate::values::KINDS;
@@ -142,6 +142,23 @@ pub fn telegrams(script: &mut Script) {
         add_free(script);
     }
     walk(script, 130);
+}
+
+/// A bench that is silent to telegrams whose substitution is broken, in each way there is, and answers others between
+/// them.
+pub fn broken_telegrams(script: &mut Script) {
+    new_bench(script);
+    add(script, 8);
+    for way in BREAKS.iter().cycle().take(BREAKS.len() * 2) {
+        let bench = bench(script);
+        let asked = request(&mut script.random, &bench);
+        for frame in broken(&mut script.random, &asked, *way) {
+            let room = script.random.pick(&[0, 8, 20]);
+            tele(script, &frame, room);
+        }
+        right_telegram(script);
+    }
+    script.call("bench.dump");
 }
 
 /// So many steps over the bench there is, a dump after every few.

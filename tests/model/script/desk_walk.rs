@@ -3,7 +3,7 @@
 use super::{buffer, enough, room, too_little, Script};
 use crate::calls::hex;
 use crate::desk::{Desk, Request, Ticket, FIRST_HOST, HOSTS, LAST_HOST};
-use crate::faults::{data, flip_within_16, length, spoil};
+use crate::faults::{broken, data, flip_within_16, length, spoil, BREAKS};
 use crate::random::Random;
 use crate::telegram::{frame, Message, No, MOST_DATA};
 use crate::varia::Varia;
@@ -88,6 +88,29 @@ pub fn mixed(script: &mut Script) {
         }
     }
     walk.let_expire(15);
+}
+
+/// Replies whose substitution is broken, in each way there is, to tickets that stay open or where there is none; now
+/// and then a right one after them.
+pub fn broken_replies(script: &mut Script) {
+    let mut walk = Walk::new(script);
+    for way in BREAKS.iter().cycle().take(BREAKS.len() * 2) {
+        walk.tick();
+        walk.open();
+        if let Some((address, ticket)) = walk.ticket() {
+            let free = walk.address_without_ticket();
+            let address = if walk.random().one_in(4) { free } else { address };
+            let reply = walk.fitting_reply(address, &ticket);
+            for frame in broken(walk.random(), &reply, *way) {
+                let room = room(walk.random(), reply.data.len());
+                walk.reply_with(&frame, room);
+            }
+        }
+        if walk.random().one_in(3) {
+            walk.right_reply();
+        }
+    }
+    walk.dump();
 }
 
 impl<'a> Walk<'a> {

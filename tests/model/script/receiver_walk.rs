@@ -4,8 +4,8 @@ use super::Script;
 use crate::calls::{hex, LONGEST_LINE};
 use crate::capture;
 use crate::chunks::{cut_at, places};
-use crate::faults::{all_substituted, frame_of, longest, message, runaway, tiny};
-use crate::telegram::{END, LONGEST_TELEGRAM, START};
+use crate::faults::{all_substituted, break_in, broken, filled, frame_of, longest, message, runaway, tiny, BREAKS};
+use crate::telegram::{END, LONGEST_TELEGRAM, START, SUBSTITUTION};
 
 /// The most bytes that a line can feed.
 pub const MOST_FED: usize = (LONGEST_LINE - "rx.feed ".len()) / 2;
@@ -92,6 +92,36 @@ fn cut_near_the_limit(script: &mut Script, frame: Vec<u8>) {
     let mut places: Vec<usize> = (0..random.between(1, 3)).map(|_| LONGEST_TELEGRAM - 3 + random.below(6)).collect();
     places.push(random.below(4));
     places.sort_unstable();
+    feed_cut(script, &capture, &places);
+    script.call("rx.end");
+}
+
+/// Frames whose substitution is broken, in each way there is: of any message, and of the most bytes that are read, of
+/// one less and of one more.
+pub fn broken_frames(script: &mut Script) {
+    for way in BREAKS {
+        let message = message(&mut script.random);
+        for frame in broken(&mut script.random, &message, way) {
+            cut_at_a_94(script, frame);
+        }
+        for length in [LONGEST_TELEGRAM - 1, LONGEST_TELEGRAM, LONGEST_TELEGRAM + 1] {
+            let mut frame = filled(&mut script.random, length);
+            break_in(&mut script.random, &mut frame, way);
+            cut_at_a_94(script, frame);
+        }
+    }
+}
+
+/// A few bytes, a frame and a telegram after it, cut behind a 94 of that frame and anywhere else.
+fn cut_at_a_94(script: &mut Script, frame: Vec<u8>) {
+    new_receiver(script);
+    let random = &mut script.random;
+    let before = vec![65; random.below(4)];
+    let marked: Vec<usize> = (0..frame.len()).filter(|place| frame[*place] == SUBSTITUTION).collect();
+    let behind = marked.first().map_or(0, |first| if random.one_in(2) { *first } else { random.pick(&marked) }) + 1;
+    let mut places = vec![before.len() + behind, random.below(frame.len())];
+    places.sort_unstable();
+    let capture = [before, frame, message(random).telegram()].concat();
     feed_cut(script, &capture, &places);
     script.call("rx.end");
 }

@@ -2,7 +2,7 @@
 
 use super::{buffer, enough, room, too_little, Script};
 use crate::calls::hex;
-use crate::faults::{damage, data, flip_unseen, flip_within_16, longest, message, spoil, tiny};
+use crate::faults::{broken, damage, data, flip_unseen, flip_within_16, longest, message, spoil, tiny, BREAKS};
 use crate::random::Random;
 use crate::telegram::{frame, Message, No, MOST_DATA};
 
@@ -123,6 +123,17 @@ fn long_frame(script: &mut Script) {
     }
     let room = random.pick(&[0, 100, 239, 240, 241, 300, length]);
     read(script, &frame(&bytes), room);
+}
+
+/// The reader on frames whose substitution is broken, in each way there is, with any buffer.
+pub fn broken_frames(script: &mut Script) {
+    for way in BREAKS.iter().cycle().take(BREAKS.len() * 4) {
+        let message = message(&mut script.random);
+        for frame in broken(&mut script.random, &message, *way) {
+            let room = room(&mut script.random, message.data.len());
+            read(script, &frame, room);
+        }
+    }
 }
 
 /// The writer: right messages, and each row's fault with others after it.
