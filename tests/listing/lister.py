@@ -16,8 +16,9 @@ def told(frame):
     """What its line says of a frame that a 10 closed: over 494 bytes come first, then the lowest number."""
     if len(frame) > 494:
         return "refused 5"
-    if re.search(rb"\x5e[^\x4a\x4d\x9e]", frame, re.S):
-        return "refused 3"
+    bad = re.search(rb"\x5e[^\x4a\x4d\x9e]", frame, re.S)
+    if bad:
+        return f"refused 3 in {bad.start()}"
     message = re.sub(rb"\x5e(.)", lambda pair: bytes([pair[1][0] - 64]), frame[1:-1], flags=re.S)
     if len(message) < 6:
         return "refused 4"
