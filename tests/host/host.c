@@ -48,8 +48,8 @@ static void same_frame(struct kamzhor_frame a, const struct plain_frame *b)
         fail("the frame's number differs");
     if (a.destination != b->destination || a.source != b->source || a.type != b->type || a.reg != b->reg || a.size != b->size)
         fail("a field of the frame differs");
-    if (a.place != 0)
-        fail("the place is not 0");
+    if (a.place != b->place)
+        fail("the place differs");
 }
 
 static unsigned frame_of(const uint8_t *frame, size_t n, size_t room_length)
@@ -137,25 +137,36 @@ struct told_frame {
     uint8_t bytes[16];
     unsigned refusal, destination, source, type, reg, size;
     uint8_t data[4];
+    unsigned place; /* with number 3 */
 };
 
 static const struct told_frame told_frames[] = {
-    {8, {13, 0x0F, 0xA2, 0x04, 0x66, 0xC7, 0xB6, 10}, 0, 15, 162, 4, 102, 0, {0}},
-    {9, {13, 0x0F, 0xA2, 0x05, 0x30, 0x03, 0xBC, 0xE1, 10}, 0, 15, 162, 5, 48, 1, {3}},
-    {8, {13, 0xA2, 0x0F, 0x03, 0x30, 0x48, 0x2F, 10}, 0, 162, 15, 3, 48, 0, {0}},
-    {11, {13, 0x5E, 0x4A, 0xA2, 0x05, 0x23, 0x88, 0x13, 0x3B, 0x55, 10}, 0, 10, 162, 5, 35, 2, {0x88, 0x13}},
-    {9, {13, 0xA2, 0x5E, 0x4A, 0x03, 0x23, 0x81, 0x8D, 10}, 0, 162, 10, 3, 35, 0, {0}},
-    {9, {13, 0x5E, 0x4A, 0xA2, 0x04, 0x11, 0x75, 0x83, 10}, 0, 10, 162, 4, 17, 0, {0}},
-    {11, {13, 0xA2, 0x5E, 0x4A, 0x08, 0x11, 0x5E, 0x91, 0x63, 0x7E, 10}, 3, 0, 0, 0, 0, 0, {0}},
-    {12, {13, 0xA2, 0x5E, 0x4A, 0x08, 0x11, 0x5E, 0x9E, 0x91, 0x63, 0x7E, 10}, 0, 162, 10, 8, 17, 2, {0x5E, 0x91}},
-    {11, {13, 0x5E, 0x4A, 0x42, 0x05, 0x32, 0x5E, 0x4D, 0x9C, 0xF0, 10}, 0, 10, 66, 5, 50, 1, {13}}, /* T5 */
-    {2, {13, 10}, 4, 0, 0, 0, 0, 0, {0}},                                                             /* T6 */
-    {4, {13, 0x5E, 0x41, 10}, 3, 0, 0, 0, 0, 0, {0}},                                                 /* T7 */
-    {8, {13, 0x0F, 0xA2, 0x04, 0x66, 0xC7, 0xB7, 10}, 7, 0, 0, 0, 0, 0, {0}},                         /* T8 */
-    {0, {0}, 1, 0, 0, 0, 0, 0, {0}},
-    {1, {13}, 1, 0, 0, 0, 0, 0, {0}},
-    {3, {13, 13, 10}, 2, 0, 0, 0, 0, 0, {0}},
-    {3, {13, 94, 10}, 3, 0, 0, 0, 0, 0, {0}},
+    {8, {13, 0x0F, 0xA2, 0x04, 0x66, 0xC7, 0xB6, 10}, 0, 15, 162, 4, 102, 0, {0}, 0},
+    {9, {13, 0x0F, 0xA2, 0x05, 0x30, 0x03, 0xBC, 0xE1, 10}, 0, 15, 162, 5, 48, 1, {3}, 0},
+    {8, {13, 0xA2, 0x0F, 0x03, 0x30, 0x48, 0x2F, 10}, 0, 162, 15, 3, 48, 0, {0}, 0},
+    {11, {13, 0x5E, 0x4A, 0xA2, 0x05, 0x23, 0x88, 0x13, 0x3B, 0x55, 10}, 0, 10, 162, 5, 35, 2, {0x88, 0x13}, 0},
+    {9, {13, 0xA2, 0x5E, 0x4A, 0x03, 0x23, 0x81, 0x8D, 10}, 0, 162, 10, 3, 35, 0, {0}, 0},
+    {9, {13, 0x5E, 0x4A, 0xA2, 0x04, 0x11, 0x75, 0x83, 10}, 0, 10, 162, 4, 17, 0, {0}, 0},
+    {11, {13, 0xA2, 0x5E, 0x4A, 0x08, 0x11, 0x5E, 0x91, 0x63, 0x7E, 10}, 3, 0, 0, 0, 0, 0, {0}, 6},
+    {12, {13, 0xA2, 0x5E, 0x4A, 0x08, 0x11, 0x5E, 0x9E, 0x91, 0x63, 0x7E, 10}, 0, 162, 10, 8, 17, 2, {0x5E, 0x91}, 0},
+    {11, {13, 0x5E, 0x4A, 0x42, 0x05, 0x32, 0x5E, 0x4D, 0x9C, 0xF0, 10}, 0, 10, 66, 5, 50, 1, {13}, 0}, /* T5 */
+    {2, {13, 10}, 4, 0, 0, 0, 0, 0, {0}, 0},                                                            /* T6 */
+    {4, {13, 0x5E, 0x41, 10}, 3, 0, 0, 0, 0, 0, {0}, 1},                                                /* T7 */
+    {8, {13, 0x0F, 0xA2, 0x04, 0x66, 0xC7, 0xB7, 10}, 7, 0, 0, 0, 0, 0, {0}, 0},                        /* T8 */
+    {0, {0}, 1, 0, 0, 0, 0, 0, {0}, 0},
+    {1, {13}, 1, 0, 0, 0, 0, 0, {0}, 0},
+    {3, {13, 13, 10}, 2, 0, 0, 0, 0, 0, {0}, 0},
+    {3, {13, 94, 10}, 3, 0, 0, 0, 0, 0, {0}, 1},
+    {9, {13, 94, 0xA2, 0x0F, 0x03, 0x30, 0x48, 0x2F, 10}, 3, 0, 0, 0, 0, 0, {0}, 1}, /* right after the start */
+    {9, {13, 0xA2, 0x0F, 0x03, 0x30, 0x48, 0x2F, 94, 10}, 3, 0, 0, 0, 0, 0, {0}, 7}, /* just before the end */
+    {9, {13, 0xA2, 94, 65, 0x03, 94, 66, 0x2F, 10}, 3, 0, 0, 0, 0, 0, {0}, 2},       /* two */
+    {8, {13, 94, 74, 0x0F, 94, 65, 0x2F, 10}, 3, 0, 0, 0, 0, 0, {0}, 4},             /* a right one before it */
+    {8, {13, 0xA2, 94, 65, 94, 74, 0x2F, 10}, 3, 0, 0, 0, 0, 0, {0}, 2},             /* and behind it */
+    {5, {13, 94, 94, 74, 10}, 3, 0, 0, 0, 0, 0, {0}, 1},                             /* the second is right */
+    {7, {13, 94, 158, 94, 94, 158, 10}, 3, 0, 0, 0, 0, 0, {0}, 3},
+    {7, {13, 0xA2, 94, 65, 13, 0x2F, 10}, 2, 0, 0, 0, 0, 0, {0}, 0}, /* a 13 too */
+    {5, {13, 94, 10, 0x2F, 10}, 2, 0, 0, 0, 0, 0, {0}, 0},           /* a 10 */
+    {4, {13, 94, 65, 66}, 1, 0, 0, 0, 0, 0, {0}, 0},                 /* no end */
 };
 
 struct told_value {
@@ -208,7 +219,7 @@ static void vectors(void)
         uint8_t room[4] = {0xA1, 0xA2, 0xA3, 0xA4}, after[4] = {0xA1, 0xA2, 0xA3, 0xA4};
         struct kamzhor_frame a = kamzhor_read_frame(t->bytes, t->n, room, sizeof room);
         if (a.refusal != t->refusal || a.destination != t->destination || a.source != t->source || a.type != t->type || a.reg != t->reg
-            || a.size != t->size || a.place != 0)
+            || a.size != t->size || a.place != t->place)
             fail("a frame is not read as the paper says");
         memcpy(after, t->data, t->size);
         if (memcmp(room, after, sizeof room))
@@ -258,6 +269,73 @@ static void named(void)
     if (kamzhor_read_value(0, frame, 1, 0).refusal != KAMZHOR_UNKNOWN_KIND || kamzhor_read_value(KAMZHOR_U16, frame, 1, 0).refusal != KAMZHOR_WRONG_LENGTH
         || kamzhor_read_value(KAMZHOR_U8, frame, 1, 1).refusal != KAMZHOR_NO_SUCH_ELEMENT)
         fail("the archive gives a value another number than the header's name says");
+}
+
+/* number 3's place, written out and not left to plain.c */
+static void placed(const uint8_t *frame, size_t n, size_t place)
+{
+    struct kamzhor_frame a = kamzhor_read_frame(frame, n, NULL, 0);
+    if (a.refusal != KAMZHOR_BAD_SUBSTITUTION || a.place != place || frame_of(frame, n, 0) != 3)
+        fail("the first faulty 94 is in another place");
+}
+
+static void not_placed(const uint8_t *frame, size_t n, unsigned gives)
+{
+    struct kamzhor_frame a = kamzhor_read_frame(frame, n, NULL, 0);
+    if (a.refusal != gives || a.place != 0 || frame_of(frame, n, 0) != gives)
+        fail("another number than 3 has a place, or it is another number");
+}
+
+/* A faulty 94 at the places of frames of these lengths: alone, with the last byte a faulty one too, with right pairs before it;
+ * then with a 13 or a 10 between the ends, and without the end byte. The reader keeps its order in frames over 494 bytes. */
+static void places(void)
+{
+    static const size_t lengths[] = {3, 4, 5, 8, 12, 300, 493, 494, 495, 600, 2000};
+    static uint8_t frame[PLAIN_LONGEST];
+    size_t k, at, i;
+    doing = "places";
+    for (k = 0; k < sizeof lengths / sizeof *lengths; k++) {
+        size_t n = lengths[k];
+        for (at = 1; at + 1 < n; at += at < 10 || at + 10 > n || (at > 250 && at < 260) ? 1 : 3) {
+            memset(frame, 65, n);
+            frame[0] = 13;
+            frame[n - 1] = 10;
+            frame[at] = 94;
+            placed(frame, n, at);
+            frame[n - 2] = 94;
+            placed(frame, n, at);
+            for (i = at % 2 ? 1 : 2; i < at; i += 2) {
+                frame[i] = 94;
+                frame[i + 1] = i % 3 == 0 ? 74 : i % 3 == 1 ? 77 : 158;
+            }
+            placed(frame, n, at);
+            frame[n - 1] = 65;
+            not_placed(frame, n, KAMZHOR_NOT_FRAMED);
+            frame[n - 1] = 10;
+            if (n > 4) {
+                i = at + 2 < n ? at + 1 : at - 1; /* behind it, or before it */
+                frame[i] = at % 2 ? 13 : 10;
+                not_placed(frame, n, KAMZHOR_STRAY_END);
+            }
+        }
+    }
+}
+
+/* every byte after a 94 */
+static void after_94(void)
+{
+    uint8_t frame[] = {13, 0xA2, 94, 0, 0x0F, 0x03, 10};
+    unsigned b;
+    doing = "bytes after a 94";
+    for (b = 0; b < 256; b++) {
+        frame[3] = (uint8_t)b;
+        if (b == 10 || b == 13)
+            not_placed(frame, sizeof frame, KAMZHOR_STRAY_END);
+        else if (b == 74 || b == 77 || b == 158)
+            not_placed(frame, sizeof frame, KAMZHOR_SHORT_MESSAGE);
+        else
+            placed(frame, sizeof frame, 2);
+    }
 }
 
 /* both sides of 240 data bytes, with rooms of the data's length, one less and one more */
@@ -336,6 +414,8 @@ int main(void)
     rooms = ground(PLAIN_LONGEST);
     vectors();
     named();
+    places();
+    after_94();
     limits();
     seeded();
     doing = "count";

@@ -20,10 +20,12 @@ static bool frame_read()
 
 static bool refused()
 {
-    const uint8_t frame[] = {13, 0x0F, 0xA2, 0x04, 0x66, 0xC7, 0xB7, 10}, below[] = {0x00, 0x80};
+    const uint8_t frame[] = {13, 0x0F, 0xA2, 0x04, 0x66, 0xC7, 0xB7, 10}, bad[] = {13, 0xA2, 94, 74, 94, 65, 10}, below[] = {0x00, 0x80};
     kamzhor_frame t = kamzhor_read_frame(frame, sizeof frame, 0, 0);
     kamzhor_value v = kamzhor_read_value(KAMZHOR_I16, below, sizeof below, 0);
-    return t.refusal == KAMZHOR_CHECK_FAULT && t.size == 0 && v.negative == 1 && v.magnitude == 32768
+    kamzhor_frame b = kamzhor_read_frame(bad, sizeof bad, 0, 0);
+    return t.refusal == KAMZHOR_CHECK_FAULT && t.size == 0 && t.place == 0 && b.refusal == KAMZHOR_BAD_SUBSTITUTION && b.place == 4
+        && v.negative == 1 && v.magnitude == 32768
         && kamzhor_read_value(8, below, sizeof below, 0).refusal == KAMZHOR_UNKNOWN_KIND;
 }
 

@@ -44,8 +44,18 @@ size_t plain_framed(const uint8_t *message, size_t n, uint8_t *out)
     return to;
 }
 
-/* the first row that applies, with the message where there is one */
-static unsigned rows(const uint8_t *frame, size_t n, size_t room, uint8_t *message, size_t *length)
+/* the first 94 between the ends that none of 74, 77 and 158 follows; 0 where there is none. It looks from the end byte back. */
+static size_t bad_94(const uint8_t *frame, size_t n)
+{
+    size_t i, bad = 0;
+    for (i = n - 2; i > 0; i--)
+        if (frame[i] == 94 && !(frame[i + 1] == 74 || frame[i + 1] == 77 || frame[i + 1] == 158))
+            bad = i;
+    return bad;
+}
+
+/* the first row that applies, with its place where it has one, and the message where there is one */
+static unsigned rows(const uint8_t *frame, size_t n, size_t room, uint8_t *message, size_t *length, size_t *place)
 {
     size_t i, m = 0;
     if (n < 2 || frame[0] != 13 || frame[n - 1] != 10)
@@ -53,9 +63,9 @@ static unsigned rows(const uint8_t *frame, size_t n, size_t room, uint8_t *messa
     for (i = 1; i + 1 < n; i++)
         if (frame[i] == 10 || frame[i] == 13)
             return 2;
-    for (i = 1; i + 1 < n; i++)
-        if (frame[i] == 94 && frame[i + 1] != 74 && frame[i + 1] != 77 && frame[i + 1] != 158)
-            return 3;
+    *place = bad_94(frame, n);
+    if (*place)
+        return 3;
     for (i = 1; i + 1 < n; i++) {
         if (frame[i] == 94) {
             i++;
@@ -84,7 +94,7 @@ void plain_read_frame(const uint8_t *frame, size_t n, size_t room, struct plain_
     static uint8_t message[PLAIN_LONGEST];
     size_t m = 0;
     memset(out, 0, sizeof *out);
-    out->refusal = rows(frame, n, room, message, &m);
+    out->refusal = rows(frame, n, room, message, &m, &out->place);
     if (out->refusal)
         return;
     out->destination = message[0];

@@ -12,7 +12,7 @@
 
 struct plain_frame {
     unsigned refusal, destination, source, type, reg;
-    size_t size;
+    size_t size, place; /* of the first faulty 94, with number 3; 0 with all else */
     uint8_t data[PLAIN_LONGEST];
 };
 

@@ -48,7 +48,7 @@ static void same_step(const struct kamzhor_step *a, const struct plain_step *b)
     if (a->refusal != b->refusal || a->line != b->line || a->taken != b->taken || a->place != b->place)
         fail("a number of the step differs");
     if (a->frame.refusal != b->frame.refusal || a->frame.destination != b->frame.destination || a->frame.source != b->frame.source
-        || a->frame.type != b->frame.type || a->frame.reg != b->frame.reg || a->frame.size != b->frame.size || a->frame.place != 0)
+        || a->frame.type != b->frame.type || a->frame.reg != b->frame.reg || a->frame.size != b->frame.size || a->frame.place != b->frame.place)
         fail("a number of the step's frame differs");
     same_receiver(&a->receiver, &b->receiver);
 }
@@ -153,10 +153,18 @@ static void put(size_t n, const char *bytes)
     memcpy(stream, bytes, n);
 }
 
-static void told(const struct taken *t, unsigned line, uint64_t place, unsigned refusal)
+static void told_in(const struct taken *t, unsigned line, uint64_t place, unsigned refusal, uint64_t in)
 {
     if (t->last.refusal != KAMZHOR_DONE || t->last.line != line || t->last.place != place || t->last.frame.refusal != refusal)
         fail("another line than the paper's");
+    if (t->last.frame.place != in)
+        fail("another place in the frame than the paper's");
+}
+
+/* without a place in the frame: all but number 3 */
+static void told(const struct taken *t, unsigned line, uint64_t place, unsigned refusal)
+{
+    told_in(t, line, place, refusal, 0);
 }
 
 static void vectors(void)
@@ -190,6 +198,38 @@ static void vectors(void)
     told(&t, KAMZHOR_NO_LINE, 0, 0);
 }
 
+/* number 3's place counts from the frame's own start byte, wherever the chunks are cut: also behind the 94 */
+static void places(void)
+{
+    static const struct {
+        size_t n;
+        const char *bytes;
+        size_t start, in; /* the start byte of the last frame, and the place in it */
+    } frames[] = {
+        {3, "\r^\n", 0, 1},                         /* the first and the last byte between the ends */
+        {9, "\r^\xA2\x0F\x03\x30\x48\x2F\n", 0, 1}, /* right after the start */
+        {9, "\r\xA2\x0F\x03\x30\x48\x2F^\n", 0, 7}, /* just before the end */
+        {9, "\r\xA2^\x41\x03^\x42\x2F\n", 0, 2},    /* two */
+        {8, "\r^\x4A\x0F^\x41\x2F\n", 0, 4},        /* a right one before it */
+        {5, "\r^^\x4A\n", 0, 1},                    /* the second is right */
+        {7, "\r^\x9E^^\x9E\n", 0, 3},
+        {9, "^\x41^\r\x0F^\x4D^\n", 3, 4}, /* others outside of the frame */
+        {8, "\r^\x41\r\xA2^\x41\n", 3, 2}, /* and in one that is dropped */
+    };
+    size_t i, cut;
+    struct taken t;
+    doing = "places";
+    for (i = 0; i < sizeof frames / sizeof *frames; i++) {
+        put(frames[i].n, frames[i].bytes);
+        for (cut = 0; cut < frames[i].n; cut++) {
+            t = begin(1000);
+            chunk(&t, cut);
+            chunk(&t, frames[i].n);
+            told_in(&t, KAMZHOR_LINE_REFUSED, 1000 + frames[i].start, KAMZHOR_BAD_SUBSTITUTION, frames[i].in);
+        }
+    }
+}
+
 /* The longest frames: every byte of the message converted, but for a type of 5. With type 94 it has 494 bytes and is still
  * read; with one byte more it is too long, whatever stands in it. */
 static size_t longest(uint8_t type, size_t more)
@@ -215,7 +255,7 @@ static void limits(void)
     static const struct {
         uint8_t type;
         size_t more, n;
-        unsigned gives[2]; /* as it is, and with a bad substitution in it */
+        unsigned gives[2]; /* as it is, and with a bad substitution in it: the first 94, or the last byte before the end */
     } frames[] = {
         {5, 0, 493, {KAMZHOR_DONE, KAMZHOR_BAD_SUBSTITUTION}},
         {94, 0, 494, {KAMZHOR_UNKNOWN_TYPE, KAMZHOR_BAD_SUBSTITUTION}},
@@ -226,18 +266,22 @@ static void limits(void)
     size_t i, bad, cut;
     doing = "limits";
     for (i = 0; i < sizeof frames / sizeof *frames; i++) {
-        size_t n = longest(frames[i].type, frames[i].more);
-        if (n != frames[i].n)
-            fail("the longest frame has another length");
-        for (bad = 0; bad < 2; bad++) {
-            unsigned gives = frames[i].gives[bad];
-            if (bad)
+        for (bad = 0; bad < 3; bad++) {
+            size_t n = longest(frames[i].type, frames[i].more), in = 0;
+            unsigned gives = frames[i].gives[bad > 0];
+            if (n != frames[i].n)
+                fail("the longest frame has another length");
+            if (bad == 1)
                 stream[2] = 65;
+            if (bad == 2)
+                stream[n - 2] = 94;
+            if (gives == KAMZHOR_BAD_SUBSTITUTION)
+                in = bad == 1 ? 1 : frames[i].more ? n - 2 : n - 3; /* where nothing is put behind the message, its last byte is a pair's */
             for (cut = 488; cut <= n; cut++) {
                 struct taken t = begin(7);
                 chunk(&t, cut < n ? cut : 0);
                 chunk(&t, n);
-                told(&t, gives ? KAMZHOR_LINE_REFUSED : KAMZHOR_LINE_OK, 7, gives);
+                told_in(&t, gives ? KAMZHOR_LINE_REFUSED : KAMZHOR_LINE_OK, 7, gives, in);
             }
         }
     }
@@ -385,6 +429,7 @@ int main(void)
     size_t i;
     chunks = ground(LONG);
     vectors();
+    places();
     limits();
     runaways();
     sixty();
