@@ -21,7 +21,10 @@ static void show(size_t at, const uint8_t *frame, size_t length)
     size_t i;
     struct kamzhor_frame t = kamzhor_read_frame(frame, length, room, sizeof room);
     if (t.refusal != KAMZHOR_DONE) {
-        printf("at %lu refused %u\n", (unsigned long)at, (unsigned)t.refusal);
+        printf("at %lu refused %u", (unsigned long)at, (unsigned)t.refusal);
+        if (t.refusal == KAMZHOR_BAD_SUBSTITUTION)
+            printf(" in %lu", (unsigned long)t.place);
+        printf("\n");
         return;
     }
     printf("at %lu from %u to %u type %u register %u data", (unsigned long)at, (unsigned)t.source, (unsigned)t.destination, (unsigned)t.type,

@@ -30,7 +30,10 @@ static void show(struct listing *l, const struct kamzhor_step *step)
         break;
     case KAMZHOR_LINE_REFUSED:
         l->refused++;
-        printf("refused %u\n", (unsigned)t->refusal);
+        printf("refused %u", (unsigned)t->refusal);
+        if (t->refusal == KAMZHOR_BAD_SUBSTITUTION)
+            printf(" in %llu", (unsigned long long)t->place);
+        printf("\n");
         break;
     default:
         l->dropped++;

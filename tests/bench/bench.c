@@ -37,7 +37,7 @@ static uint64_t frames_theirs(void)
     size_t i;
     for (i = 0; i < many; i++) {
         struct straight_frame t = straight_read_frame(bytes + from[i], size[i], room, sizeof room);
-        sum = sum * 31 + t.refusal + t.size + room[0];
+        sum = sum * 31 + t.refusal + t.size + t.place + room[0];
     }
     return sum;
 }
@@ -48,7 +48,7 @@ static uint64_t frames_ours(void)
     size_t i;
     for (i = 0; i < many; i++) {
         struct kamzhor_frame t = kamzhor_read_frame(bytes + from[i], size[i], room, sizeof room);
-        sum = sum * 31 + t.refusal + t.size + room[0];
+        sum = sum * 31 + t.refusal + t.size + t.place + room[0];
     }
     return sum;
 }

@@ -27,11 +27,14 @@ int main(void)
                 else
                     kept = LONGEST + 1;
                 if (piece[i] == 10) {
-                    struct straight_frame t = { 5, 0, 0, 0, 0, 0 };
+                    struct straight_frame t = { 5, 0, 0, 0, 0, 0, 0 };
                     if (kept <= LONGEST)
                         t = straight_read_frame(frame, kept, room, sizeof room);
                     if (t.refusal) {
-                        printf("at %llu refused %u\n", at, t.refusal);
+                        if (t.refusal == 3)
+                            printf("at %llu refused 3 in %llu\n", at, (unsigned long long)t.place);
+                        else
+                            printf("at %llu refused %u\n", at, t.refusal);
                         refused++;
                     } else {
                         printf("at %llu ok %u %u %u %u %llu\n", at, t.destination, t.source, t.type, t.reg, (unsigned long long)t.size);

@@ -16,10 +16,9 @@ uint16_t straight_remainder(const uint8_t *bytes, size_t n)
 
 struct straight_frame straight_read_frame(const uint8_t *frame, size_t n, uint8_t *room, size_t room_length)
 {
-    struct straight_frame t = {1, 0, 0, 0, 0, 0};
+    struct straight_frame t = {1, 0, 0, 0, 0, 0, 0};
     uint8_t message[246];
-    size_t i, m = 0;
-    int bad = 0;
+    size_t i, m = 0, bad = 0;
     if (n < 2 || frame[0] != 13 || frame[n - 1] != 10)
         return t;
     for (i = 1; i + 1 < n; i++) {
@@ -33,14 +32,15 @@ struct straight_frame straight_read_frame(const uint8_t *frame, size_t n, uint8_
             if (next == 74 || next == 77 || next == 158) {
                 b = (uint8_t)(next - 64);
                 i++;
-            } else
-                bad = 1;
+            } else if (!bad)
+                bad = i;
         }
         if (m < sizeof message)
             message[m] = b;
         m++;
     }
     t.refusal = bad ? 3 : m < 6 ? 4 : m > 246 ? 5 : room_length < m - 6 ? 6 : 0;
+    t.place = bad;
     if (t.refusal)
         return t;
     t.refusal = straight_remainder(message, m) ? 7 : !message[0] || !message[1] ? 8 : message[2] > 9 ? 9 : 0;

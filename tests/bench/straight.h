@@ -8,7 +8,7 @@
 struct straight_frame {
     uint32_t refusal;
     uint8_t destination, source, type, reg;
-    size_t size;
+    size_t size, place; /* of the first bad 94, with refusal 3 */
 };
 
 uint16_t straight_remainder(const uint8_t *bytes, size_t n);
