@@ -13,7 +13,7 @@ use Rattle.rows.specs.Rows.{orLater, raised}
 use Rattle.rows.specs.Settled.{Settled}
 use Rattle.request.specs.declared.Fault.the-variants as ask
 use Rattle.telegram.proofs.Faulty.{refused-place, fault-no-place}
-use Rattle.telegram.specs.Read.{FirstFaulty, readRefusal, fieldsIn, faultNumber as readNumber}
+use Rattle.telegram.specs.Read.{FirstFaulty, readRefusal, fieldsIn}
 use Rattle.telegram.specs.declared.Fault.{Fault as Unreadable}
 use Rattle.ticket.specs.Fit.{fitRefusal}
 use Rattle.ticket.specs.declared.Fault.{Fault as Unfit}

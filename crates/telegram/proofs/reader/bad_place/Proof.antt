@@ -28,7 +28,8 @@ is-faulty-requires c κs = search needs
 returns : tie.Need-returns Inv-loop μ-loop
 unfolding badPlace
 returns c =
-    sym (first-at (isFaulty (c .before .before .before .before .before .args .frame .now)) _ _ (c .before .before .loop-test .taken) (c .before .before .before .loop .inv .1) (sym (c .before .is-faulty .ensures) ∙ c .if1 .taken))
+    let s = c .before .before .before .before .before .args in
+    sym (first-at (isFaulty (s .frame .now)) _ _ (c .before .before .loop-test .taken) (c .before .before .before .loop .inv .1) (sym (c .before .is-faulty .ensures) ∙ c .if1 .taken))
 
 add-i : tie.Need-add-i Inv-loop μ-loop
 add-i c = search needs

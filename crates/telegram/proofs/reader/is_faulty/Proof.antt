@@ -19,7 +19,9 @@ is-substitute-requires : tie.Need-is-substitute-requires
 is-substitute-requires c κs = search needs
 
 returns-2 : tie.Need-returns-2
-returns-2 c = by-next (c .before .before .before .before .before .before .args .frame .now) (c .before .before .before .before .before .before .args .at) (c .before .before .before .if1 .left) _ (c .is-substitute .ensures)
+returns-2 c =
+    let s = c .before .before .before .before .before .before .args in
+    by-next (s .frame .now) (s .at) (c .before .before .before .if1 .left) _ (c .is-substitute .ensures)
 
 returns-3 : tie.Need-returns-3
 returns-3 c = at-end (c .before .before .before .before .args .frame .now) (c .before .before .before .before .args .at) (c .before .if1 .left) (c .if2 .left)
