@@ -72,6 +72,11 @@ module _ (bench : Bench) (frame room : List ℕ) (r : AfterTake) (room′ : List
           (refused-place frame 240 (u .0) (unread-only (readRefusal frame 240) (not (eqb (fieldsIn frame .destination) (bench .address))) (isAnswer (fieldsIn frame .sort))
           (ltb (length room) (length (replyOf bench (fieldsIn frame) (dataIn frame)))) (u .0) refusal) (sym (ap faultNumber (u .1)) ∙ number-of e))
 
+  -- and the call `place` tells it
+  pub take-told-place : (f : Fault) (place : ℕ) → r .answer ≡ Silent f → faultNumber f ≡ 3 → Places f place → FirstFaulty frame place
+  take-told-place f place is number told =
+      subst (FirstFaulty frame) (sym told) (subst (λ (a : Taking). takeTold a ≡ some 3 → FirstFaulty frame (takePlace a)) is take-place (ap some number))
+
 -- no other answer has a place
 pub fault-unplaced : (f : Fault) → faultNumber f ≢ 3 → faultPlace f ≡ 0
 fault-unplaced (Unread g) other = fault-no-place g other
@@ -89,6 +94,10 @@ fault-unplaced DoesNotFit other = refl
 pub take-no-place : (a : Taking) → takeTold a ≢ some 3 → takePlace a ≡ 0
 take-no-place (Answered n) other = refl
 take-no-place (Silent f) other = fault-unplaced f (λ e. other (ap some e))
+
+-- the call `place` gives the place that these laws speak of
+pub place-is : (f : Fault) (r : ℕ) → Places f r → r ≡ faultPlace f
+place-is f r p = p
 
 pub places-settled : (f : Fault) → Settled (Places f)
 places-settled f = settled _

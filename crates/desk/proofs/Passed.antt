@@ -72,6 +72,11 @@ module _ (desk : Desk) (frame room : List ℕ) (r : AfterReply) (room′ : List 
           (unread-only (readRefusal frame (length room)) (fitRefusal (ticketOn desk (fieldsIn frame .destination)) (fieldsIn frame)) (u .0) refusal)
           (sym (ap faultNumber (u .1)) ∙ number-of e))
 
+  -- and the call `place` tells it
+  pub reply-told-place : (f : Fault) (place : ℕ) → r .answer ≡ Refused f → faultNumber f ≡ 3 → Places f place → FirstFaulty frame place
+  reply-told-place f place is number told =
+      subst (FirstFaulty frame) (sym told) (subst (λ (a : Booking). bookTold a ≡ some 3 → FirstFaulty frame (bookPlace a)) is reply-place (ap some number))
+
 -- no other answer has a place
 pub fault-unplaced : (f : Fault) → faultNumber f ≢ 3 → faultPlace f ≡ 0
 fault-unplaced (Unread g) other = fault-no-place g other
@@ -85,6 +90,10 @@ fault-unplaced NothingDue other = refl
 pub reply-no-place : (a : Booking) → bookTold a ≢ some 3 → bookPlace a ≡ 0
 reply-no-place (Booked job address sort n) other = refl
 reply-no-place (Refused f) other = fault-unplaced f (λ e. other (ap some e))
+
+-- the call `place` gives the place that these laws speak of
+pub place-is : (f : Fault) (r : ℕ) → Places f r → r ≡ faultPlace f
+place-is f r p = p
 
 pub places-settled : (f : Fault) → Settled (Places f)
 places-settled f = settled _

@@ -32,7 +32,7 @@ use Rattle.receiver.specs.declared.Answer.the-variants.{Nothing, Line, Refused}
 use Rattle.receiver.specs.declared.Stepped.{Stepped}
 use Rattle.receiver.proofs.Laws.{step-ranked}
 use Rattle.receiver.proofs.Goes.{step-goes, step-takes}
-use Rattle.kamzhor.specs.Host.{GivesStep, told, frameNumber, lineKind, noLine, answerGiven, stepGiven}
+use Rattle.kamzhor.specs.Host.{GivesStep, told, lineKind, noLine, answerGiven, stepGiven}
 use Rattle.kamzhor.specs.declared.StepAnswer.{StepAnswer}
 
 -- ---- a step that goes on is not refused on its way, and its line's frame was read, refused or dropped
@@ -120,7 +120,16 @@ pub step-line : (r : Receiver) (chunk : List ℕ) {a : StepAnswer} → GivesStep
 step-line r chunk = each-step (λ a. a .line ≤ 3) r chunk (λ f. omega arith) (plain-given r chunk .1)
 
 -- "none of it is taken": the number only, and the receiver as before
-pub step-refused : (r : Receiver) (chunk : List ℕ) {a : StepAnswer} → GivesStep r chunk a → a .refusal ≢ 0 → a ≡ noLine r 0 (a .refusal)
+pub step-refused : (r : Receiver) (chunk : List ℕ) {a : StepAnswer} → GivesStep r chunk a → a .refusal ≢ 0
+    → a
+    ≡ record {
+      refusal = a .refusal;
+      line = 0;
+      taken = 0;
+      place = 0;
+      frame = record { refusal = 0; destination = 0; source = 0; sort = 0; register = 0; size = 0; place = 0 };
+      receiver = r;
+    }
 step-refused r chunk =
     each-step (λ a. a .refusal ≢ 0 → a ≡ noLine r 0 (a .refusal)) r chunk (λ f n. refl) (λ n. absurd (n (plain-given r chunk .0)))
 
@@ -147,7 +156,8 @@ module _ (r : Receiver) (chunk : List ℕ) {a : StepAnswer} (gives : GivesStep r
   given : {what : Answer} → stepOf r chunk .answer ≡ what → a ≡ answerGiven (stepOf r chunk .receiver) (stepOf r chunk .taken) what
   given e = gives ∙ ap (answerGiven (stepOf r chunk .receiver) (stepOf r chunk .taken)) e
 
-  pub line-none : stepOf r chunk .answer ≡ Nothing → (a .refusal ≡ 0) × (a .line ≡ 0) × (a .place ≡ 0) × (a .frame ≡ frameNumber 0 0)
+  pub line-none : stepOf r chunk .answer ≡ Nothing → (a .refusal ≡ 0) × (a .line ≡ 0) × (a .place ≡ 0)
+      × (a .frame ≡ record { refusal = 0; destination = 0; source = 0; sort = 0; register = 0; size = 0; place = 0 })
   line-none e = rw (given e) (refl, refl, refl, refl)
 
   pub line-read : (place : ℕ) (t : Fields) → stepOf r chunk .answer ≡ Line (placed place (event.Read t)) → (a .refusal ≡ 0) × (a .line ≡ 1) × (a .place ≡ place)
@@ -155,9 +165,11 @@ module _ (r : Receiver) (chunk : List ℕ) {a : StepAnswer} (gives : GivesStep r
   line-read place t e = rw (given e) (refl, refl, refl, refl)
 
   pub line-refused : (place : ℕ) (f : Unreadable) → stepOf r chunk .answer ≡ Line (placed place (event.Refused f))
-      → (a .refusal ≡ 0) × (a .line ≡ 2) × (a .place ≡ place) × (a .frame ≡ frameNumber (telegram.faultNumber f) (telegram.faultPlace f))
+      → (a .refusal ≡ 0) × (a .line ≡ 2) × (a .place ≡ place)
+      × (a .frame ≡ record { refusal = telegram.faultNumber f; destination = 0; source = 0; sort = 0; register = 0; size = 0; place = telegram.faultPlace f })
   line-refused place f e = rw (given e) (refl, refl, refl, refl)
 
   pub line-dropped : (place : ℕ) → stepOf r chunk .answer ≡ Line (placed place event.Dropped)
-      → (a .refusal ≡ 0) × (a .line ≡ 3) × (a .place ≡ place) × (a .frame ≡ frameNumber 0 0)
+      → (a .refusal ≡ 0) × (a .line ≡ 3) × (a .place ≡ place)
+      × (a .frame ≡ record { refusal = 0; destination = 0; source = 0; sort = 0; register = 0; size = 0; place = 0 })
   line-dropped place e = rw (given e) (refl, refl, refl, refl)

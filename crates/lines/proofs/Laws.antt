@@ -2,9 +2,9 @@
 -- Assumes nothing.
 
 -- ---- how much room a line takes, for whoever lends it
-use mathlib.Core.Path.{_≡_, refl, ap}
+use mathlib.Core.Path.{_≡_, refl, ap, _∙_}
 use mathlib.Core.Bool.{Bool, true, false, cond}
-use mathlib.Core.List.{List, [], _++_, append-nil}
+use mathlib.Core.List.{List, [], _∷_, _++_, append-nil, append-assoc}
 use mathlib.Core.Logic.{_≢_}
 use Prim.Native.Nat.{ℕ, _+_, _≤_}
 use native.Mathlib.Omega.{arith}
@@ -16,6 +16,7 @@ use Rattle.rows.specs.Settled.{Settled}
 use Rattle.lent.proofs.Laws.{length-over}
 use Rattle.telegram.specs.Read.{faultNumber, faultPlace}
 use Rattle.telegram.specs.declared.Fault.{Fault}
+use Rattle.telegram.specs.declared.Fields.{Fields}
 use Rattle.telegram.specs.declared.Fault.the-variants.{BadSubstitution}
 use Rattle.text.proofs.Laws.{decimal-short}
 use Rattle.text.specs.Text.{ascii, newline, decimal, decimalBy}
@@ -73,17 +74,47 @@ pub read-line : lineText 12 (Read (record { destination = 1; source = 2; sort = 
 unfolding lineText decimal decimalBy
 read-line = refl
 
--- with 3 the place, with any other number none
-pub refused-line : lineText 12 (Refused (BadSubstitution 5)) ≡ ascii "at 12 refused 3 in 5" ++ newline
-unfolding lineText decimal decimalBy
-refused-line = refl
+-- ---- every line, spelled
 
-pub other-refused-line : (place : ℕ) (f : Fault) → faultNumber f ≢ 3 → lineText place (Refused f) ≡ labelled (ascii "at") place ++ (labelled (ascii " refused") (faultNumber f) ++ newline)
+-- with 3 the place, with any other number none
+pub refused-line : (place q : ℕ) → lineText place (Refused (BadSubstitution q)) ≡ ascii "at " ++ (decimal place ++ (ascii " refused 3 in " ++ (decimal q ++ newline)))
+unfolding lineText decimal decimalBy
+refused-line place q = refl
+
+pub other-refused-line : (place : ℕ) (f : Fault) → faultNumber f ≢ 3
+    → lineText place (Refused f) ≡ ascii "at " ++ (decimal place ++ (ascii " refused " ++ (decimal (faultNumber f) ++ newline)))
 unfolding lineText
 other-refused-line place f other = ap (λ (x : List ℕ). labelled (ascii "at") place ++ (x ++ newline)) none-there
   where
     none-there : eventText (Refused f) ≡ labelled (ascii " refused") (faultNumber f)
     none-there = rw (ne-eqb (faultNumber f) 3 other) (append-nil (labelled (ascii " refused") (faultNumber f)))
+
+pub read-line-spelled : (place : ℕ) (t : Fields)
+    → lineText place (Read t)
+    ≡ ascii "at " ++ (decimal place ++ (ascii " ok " ++ (decimal (t .destination) ++ (ascii " " ++ (decimal (t .source) ++ (ascii " " ++ (decimal (t .sort)
+    ++ (ascii " " ++ (decimal (t .register) ++ (ascii " " ++ (decimal (t .size) ++ newline)))))))))))
+unfolding lineText
+read-line-spelled place t =
+    ap (λ (x : List ℕ). ascii "at " ++ (decimal place ++ (ascii " ok " ++ x)))
+    (five (decimal (t .destination)) (decimal (t .source)) (decimal (t .sort)) (decimal (t .register)) (decimal (t .size)))
+  where
+    -- five words with a blank between, and a newline
+    five : (a b c d e : List ℕ) → (a ++ (32 ∷ (b ++ (32 ∷ (c ++ (32 ∷ (d ++ (32 ∷ e)))))))) ++ newline ≡ a ++ (32 ∷ (b ++ (32 ∷ (c ++ (32 ∷ (d ++ (32 ∷ (e ++ newline))))))))
+    five a b c d e =
+        append-assoc a _ newline
+        ∙ ap (λ (x : List ℕ). a ++ (32 ∷ x))
+        (append-assoc b _ newline ∙ ap (λ (x : List ℕ). b ++ (32 ∷ x)) (append-assoc c _ newline ∙ ap (λ (x : List ℕ). c ++ (32 ∷ x)) (append-assoc d (32 ∷ e) newline)))
+
+pub other-lines-spelled : (place : ℕ)
+    → (lineText place Dropped ≡ ascii "at " ++ (decimal place ++ (ascii " dropped" ++ newline)))
+    × (lineText place Open ≡ ascii "at " ++ (decimal place ++ (ascii " open" ++ newline)))
+unfolding lineText
+other-lines-spelled place = (refl, refl)
+
+pub totals-spelled : (ok refused dropped : ℕ)
+    → totalsText ok refused dropped ≡ ascii "ok " ++ (decimal ok ++ (ascii " refused " ++ (decimal refused ++ (ascii " dropped " ++ (decimal dropped ++ newline)))))
+unfolding totalsText
+totals-spelled ok refused dropped = refl
 
 pub dropped-line : lineText 7 Dropped ≡ ascii "at 7 dropped" ++ newline
 unfolding lineText decimal decimalBy

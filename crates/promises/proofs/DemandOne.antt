@@ -72,8 +72,9 @@ pub use Rattle.varia.proofs.Laws.{set-refused as edge-refused, attenuate-refuse
 -- 02, #105: with 3 the place of the first faulty 94, and with no other number a place
 pub use Rattle.telegram.proofs.Faulty.{place-told, read-place, refused-place, first-faulty-once, first-faulty-plainly, no-other-place, fault-no-place}
 pub use Rattle.telegram.proofs.Faulty.{place-first, place-within, place-faulty}
-pub use Rattle.desk.proofs.Passed.{reply-place, reply-no-place}
-pub use Rattle.bench.proofs.Passed.{take-place, take-no-place}
+pub use Rattle.telegram.proofs.Faulty.{place-is}
+pub use Rattle.desk.proofs.Passed.{reply-place, reply-told-place, reply-no-place, place-is as desk-place-is}
+pub use Rattle.bench.proofs.Passed.{take-place, take-told-place, take-no-place, place-is as bench-place-is}
 pub use Rattle.listing.proofs.Laws.{refused-line-place}
 pub use Rattle.kamzhor.proofs.Laws.{frame-place, frame-no-place}
 -- the same numbers in C

@@ -56,7 +56,7 @@ module _ (frame : List ℕ) (offered : ℕ) (t : Fields) (accepted : readFrame f
 
   -- in C too: number 7, and every other field is 0
   pub host-refuses : (room : List ℕ) (a : FrameAnswer) (room′ : List ℕ) → 240 ≤ length room → GivesFrame (framed m) room a room′
-      → (a ≡ frameNumber 7) × (room′ ≡ room)
+      → (a ≡ frameNumber 7 0) × (room′ ≡ room)
   host-refuses room a room′ wide gives =
       let outcome = reads-settled (framed m) room in
       let seven = reader-refuses room (outcome .outcome .0) (outcome .outcome .1) wide (outcome .is-allowed) in

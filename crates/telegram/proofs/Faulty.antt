@@ -224,5 +224,9 @@ first-faulty-plainly frame place f = (f .0 .0 .0, f .0 .0 .1, f .0 .1, f .0 .2, 
             let none-of = decides-substitute (byte frame (i + 1)) .not-so e in
             absurd (f .1 i under ((low, omega (arith, under, f .0 .0 .1)), is, (λ p. none-of (inl p), λ p. none-of (inr (inl p)), λ p. none-of (inr (inr p)))))
 
+-- the call `place` gives the place that these laws speak of
+pub place-is : (f : Fault) (r : ℕ) → Places f r → r ≡ faultPlace f
+place-is f r p = p
+
 pub places-settled : (f : Fault) → Settled (Places f)
 places-settled f = settled _
