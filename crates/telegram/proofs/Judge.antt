@@ -24,7 +24,8 @@ use Rattle.telegram.specs.declared.Judged.the-variants.{Sound, Unsound}
 use Rattle.telegram.specs.declared.Fields.{Fields}
 use Rattle.telegram.specs.declared.Reading.{Reading}
 use Rattle.telegram.specs.declared.Reading.the-variants.{Telegram, Refused}
-use Rattle.telegram.specs.Read.{byte, notFramed, hasStrayEnd, hasBadSubstitution, badPlace, frameTests, lengthTests, messageTests, judged, readRefusal, fieldsOf, readAnswer, readFrame, messageRefusal, dataOf, fieldsIn}
+use Rattle.telegram.specs.Read.{byte, notFramed, hasStrayEnd, hasBadSubstitution, badPlace, frameTests, lengthTests, messageTests, judged}
+use Rattle.telegram.specs.Read.{readRefusal, fieldsOf, readAnswer, readFrame, messageRefusal, dataOf, fieldsIn}
 -- both are of the rows, and whoever judges telegrams wants them too
 pub use Rattle.rows.proofs.Laws.{first-false, never-both}
 

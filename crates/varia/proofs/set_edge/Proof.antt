@@ -26,9 +26,10 @@ refused-requires-2 c κs = search needs
 
 returns-2 : tie.Need-returns-2
 returns-2 c =
-    let s = c .before .before .before .before .before .before .before .args in
-    rw (order-refused (s .filters) (s .pass) (s .tenths) _ (c .before .before .before .before .before .is-out .ensures) (c .before .before .before .before .if1 .left) _ (c .before .before .before .opposite .ensures) _
-    (c .before .before .out-of-order .ensures) (c .before .if2 .taken)) (c .refused2 .ensures, refl)
+    let checked = c .before .before in
+    let s = checked .before .before .before .before .before .args in
+    rw (order-refused (s .filters) (s .pass) (s .tenths) _ (checked .before .before .before .is-out .ensures) (checked .before .before .if1 .left) _
+    (checked .before .opposite .ensures) _ (checked .out-of-order .ensures) (c .before .if2 .taken)) (c .refused2 .ensures, refl)
 
 edge-register-requires : tie.Need-edge-register-requires
 edge-register-requires c κs = search needs
