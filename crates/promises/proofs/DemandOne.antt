@@ -33,6 +33,8 @@ pub use Rattle.desk.proofs.Laws.{opens-settled, replies-settled, cancels-settle
 pub use Rattle.receiver.proofs.Laws.{steps-settled}
 pub use Rattle.lister.proofs.Laws.{lists-settled}
 pub use Rattle.varia.proofs.Laws.{sets-settled as edge-sets-settled, attenuates-settled, reads-monitor-settled, reads-status-settled, displays-settled}
+pub use Rattle.sheet.proofs.Laws.{checks-settled as sheet-checks-settled, reads-settled as sheet-reads-settled}
+pub use Rattle.sheet_writer.proofs.Laws.{writes-settled as sheet-writes-settled}
 pub use Rattle.kamzhor.proofs.Laws.{gives-frame-settled, gives-value-settled, gives-step-settled}
 -- ---- "refused with the number listed in the specification, by its order of checks": that number exactly when its row holds and no earlier
 -- one does, and done exactly when no row holds
@@ -58,6 +60,14 @@ pub use Rattle.lister.proofs.Laws.{list-exactly}
 -- rows 59, 62 and 63, ahead of the desk's, and 64
 pub use Rattle.varia.proofs.Ranking.{set-exactly as edge-set-exactly, attenuate-exactly, monitor-exactly, status-exactly, display-exactly}
 pub use Rattle.varia.proofs.Ranking.{set-short-plainly, set-long-plainly, attenuate-plainly, display-plainly}
+-- rows 65 to 70, then 56 and 57; 79, 68, 69 and 57
+pub use Rattle.sheet.proofs.Laws.{check-exactly as sheet-check-exactly, read-exactly as sheet-read-exactly}
+pub use Rattle.sheet_writer.proofs.Laws.{write-exactly as sheet-write-exactly}
+pub use Rattle.sheet.proofs.Right.{whole as right-sheet-means, right as means-right-sheet}
+pub use Rattle.setting.proofs.Plain.{above-plainly, allowed-plainly, length-plainly, head-plainly, lengths-plainly, falls-plainly, unfit-plainly}
+pub use Rattle.setting.proofs.Plain.{row-plainly as sheet-row-plainly, rows-plainly as setting-rows-plainly}
+pub use Rattle.sheet.proofs.Plain.{at-plainly, header-plainly, parts-plainly, rows-plainly as sheet-rows-plainly, read-rows-plainly}
+pub use Rattle.sheet_writer.proofs.Laws.{many-plainly, fall-plainly, unfit-plainly as settings-unfit-plainly}
 -- the calls `number` give the numbers that these laws tell
 pub use Rattle.telegram.proofs.Laws.{number-is}
 pub use Rattle.request.proofs.Laws.{number-is as request-number-is}
@@ -67,6 +77,9 @@ pub use Rattle.bench.proofs.Laws.{number-is as bench-number-is}
 pub use Rattle.values.proofs.Laws.{number-is as value-number-is}
 pub use Rattle.catalogue.proofs.Laws.{number-is as catalogue-number-is}
 pub use Rattle.receiver.proofs.Laws.{number-is as receiver-number-is}
+pub use Rattle.setting.proofs.Plain.{numbers-are as sheet-numbers-are}
+pub use Rattle.sheet.proofs.Plain.{told-number as sheet-told-number}
+pub use Rattle.sheet_writer.proofs.Laws.{told-number as sheet-writer-told-number}
 pub use Rattle.varia.proofs.Laws.{numbers-are as box-numbers-are, told-number as box-told-number}
 pub use Rattle.varia.proofs.Laws.{set-refused as edge-refused, attenuate-refused, set-passed-up, attenuate-passed-up, monitor-passed-up, status-passed-up}
 -- 02, #105: with 3 the place of the first faulty 94, and with no other number a place
@@ -94,6 +107,9 @@ pub use Rattle.receiver.proofs.Laws.{step-refusal-keeps}
 pub use Rattle.lister.proofs.Laws.{list-refusal-keeps}
 -- the filter box's calls
 pub use Rattle.varia.proofs.Laws.{set-refusal-keeps, attenuate-refusal-keeps, monitor-refusal-keeps, status-refusal-keeps}
+-- the calls on settings sheets
+pub use Rattle.sheet.proofs.Laws.{read-refusal-keeps as sheet-read-refusal-keeps}
+pub use Rattle.sheet_writer.proofs.Laws.{write-refusal-keeps as sheet-write-refusal-keeps}
 
 -- `telegram::read`
 pub read-keeps : (frame room : List ℕ) (f : Unreadable) (room′ : List ℕ) → Reads frame room (reading.Refused f) room′ → room′ ≡ room

@@ -76,6 +76,13 @@ pub use Rattle.evenings.proofs.Laws.{any-evening}
 pub use Rattle.evenings.proofs.Plainly.{begins-plainly, goes-on-set, goes-on-attenuate, goes-on-monitor, goes-on-status, goes-on-open, goes-on-reply, goes-on-cancel, goes-on-expire}
 pub use Rattle.evenings.proofs.Plainly.{out-there, out-asked-only, out-elsewhere, out-once, known-plainly, known-by-one, known-otherwise, ack-replaces}
 pub use Rattle.evenings.proofs.Plainly.{short-known, long-known, known-in-order, out-stands, none-is-out}
+-- ---- 02, #106: a settings sheet: "Equal settings give equal sheets and the reverse."
+pub use Rattle.sheet.proofs.Written.{sheet-right, held-of-sheet, held-writable, sheet-most, same-sheet, same-settings}
+pub use Rattle.sheet.proofs.Right.{sheet-of-held}
+pub use Rattle.sheet.proofs.Laws.{right-exactly, checked-right, read-answered, read-of, other-version, other-version-checked}
+pub use Rattle.sheet_writer.proofs.Laws.{write-answered, all-taken, write-of, handed-back}
+-- one sheet byte by byte, and the empty one
+pub use Rattle.sheet.proofs.Example.{two-written, none-written, two-held, two-writable}
 
 -- ---- "A reply closes exactly the ticket open on its host address, and only where module, reply kind and register fit it."
 

@@ -23,6 +23,11 @@ use Rattle.ticket.specs.Fit.{fitRefusal}
 use Rattle.desk.specs.Open.{distanceOf, givenPlace, openRefusal}
 use Rattle.desk.specs.Reply.{bookRefusal, replyRefusal}
 use Rattle.varia.specs.Box.{edgeRefusal, attenuationRefusal}
+use Rattle.setting.specs.Setting.{lengthOf, lengthsTo, headOf, tailOf, rowsIn, heads, tails, settingsIn, isAbove, isAllowed, falls, unfit, someOf}
+use Rattle.sheet.specs.Sheet.{headerFor, recordFor, recordsFor, valuesFor, sheetOf, fieldAt, versionIn, countIn, recordsAt, valuesAt, recordsIn, valuesIn, isMisplaced, checkRefusal}
+use Rattle.sheet.specs.Sheet as sheet
+use Rattle.sheet_writer.specs.Writer.{handed, isMisstated}
+use Rattle.sheet_writer.specs.Writer as writer
 use Rattle.promises.specs.Numbers.{allGiven, refusals}
 
 pub every-number : allGiven refusals ≡ true
@@ -32,4 +37,6 @@ unfolding allGiven firstPlace passedFrom substituted framed between restored mes
     readDeed writeDeed heldDeed makeRefusal addRefusal setRefusal placeOf deedOf replyFor replyOf requestRefusal takeRefusal
     next closing told stepFrom stepRefusal stepOf askRefusal age fitRefusal distanceOf givenPlace openRefusal bookRefusal replyRefusal
     edgeRefusal attenuationRefusal
+    lengthOf lengthsTo headOf tailOf rowsIn heads tails settingsIn isAbove isAllowed falls unfit someOf headerFor recordFor recordsFor valuesFor sheetOf
+    fieldAt versionIn countIn recordsAt valuesAt recordsIn valuesIn isMisplaced checkRefusal sheet.readRefusal handed isMisstated writer.writeRefusal
 every-number = refl

@@ -37,6 +37,10 @@ use Rattle.varia.specs.declared.Out.{Out}
 use Rattle.varia.specs.declared.Out.the-variants as out
 use Rattle.varia.specs.declared.Pass.{Pass}
 use Rattle.varia.specs.declared.Pass.the-variants.{Short, Long}
+use Rattle.sheet.specs.Sheet.{countIn, recordsIn, checkRefusal, checkAnswer, checkTold, readRefusal}
+use Rattle.sheet.specs.Sheet as sheet
+use Rattle.setting.specs.Setting.{heads}
+use Rattle.sheet_writer.specs.Writer as writer
 use Rattle.rows.specs.Rows.{raised}
 use Rattle.promises.specs.Slips.{orZero, bench, request, askedDesk, usedDesk}
 
@@ -109,12 +113,28 @@ attenuating permille = raised faultNumber (attenuationRefusal permille)
 abbrev pub showing : List ℕ → List ℕ → Option ℕ
 showing fresh kept = displayTold (whichOf fresh kept)
 
+-- a sheet by its fields and what follows, and a row of 8 bytes with what follows
+abbrev pub sheetWith : ℕ → ℕ → ℕ → ℕ → List ℕ → List ℕ
+sheetWith version count records values rest = version ∷ 0 ∷ count ∷ 0 ∷ records ∷ 0 ∷ 0 ∷ 0 ∷ values ∷ 0 ∷ 0 ∷ 0 ∷ rest
+
+abbrev pub rowOf : ℕ → ℕ → ℕ → ℕ → ℕ → List ℕ → List ℕ
+rowOf unit register kind count number rest = unit ∷ register ∷ kind ∷ count ∷ number ∷ 0 ∷ 0 ∷ 0 ∷ rest
+
+abbrev pub checking : List ℕ → Option ℕ
+checking bytes = checkTold (checkAnswer (checkRefusal bytes) (countIn bytes))
+
+abbrev pub readingSheet : List ℕ → ℕ → List ℕ → Option ℕ
+readingSheet bytes index room = sheet.readTold (sheet.readAnswer (readRefusal bytes index room) (heads (recordsIn bytes) index))
+
+abbrev pub writingSheet : List ℕ → List ℕ → List ℕ → Option ℕ
+writingSheet rows values room = writer.writeTold (writer.writeAnswer (writer.writeRefusal rows values room) 0)
+
 -- the reply to that request
 abbrev pub reply : List ℕ
 reply = telegramFor 161 15 8 102 (0x34 ∷ 0x12 ∷ [])
 
--- ---- the table: the reader and the writer, the values, the catalogue, the bench at 15 with register 48, a U8, the receiver, the desk, and the
--- filter box
+-- ---- the table: the reader and the writer, the values, the catalogue, the bench at 15 with register 48, a U8, the receiver, the desk, the
+-- filter box, and settings sheets
 
 abbrev pub refusals : List Given
 refusals =
@@ -205,4 +225,53 @@ refusals =
     ∷ gives (showing (1 ∷ 2 ∷ 3 ∷ []) []) 64
     ∷ gives (showing (1 ∷ 2 ∷ []) (1 ∷ [])) 0
     ∷ gives (showing (1 ∷ []) (1 ∷ 2 ∷ [])) 0
+    ∷ gives (checking []) 65
+    ∷ gives (checking (1 ∷ 0 ∷ 0 ∷ 0 ∷ 12 ∷ 0 ∷ 0 ∷ 0 ∷ 12 ∷ 0 ∷ 0 ∷ [])) 65
+    ∷ gives (checking (sheetWith 1 0 12 12 [])) 0
+    ∷ gives (checking (sheetWith 0 0 12 12 [])) 66
+    ∷ gives (checking (sheetWith 2 0 12 12 [])) 66
+    ∷ gives (checking (sheetWith 1 0 13 12 [])) 67
+    ∷ gives (checking (sheetWith 1 0 12 11 [])) 67
+    ∷ gives (checking (sheetWith 1 0 12 13 (0 ∷ []))) 67
+    ∷ gives (checking (sheetWith 1 1 12 20 (15 ∷ []))) 67
+    ∷ gives (checking (sheetWith 1 0 12 12 (0 ∷ []))) 70
+    ∷ gives (checking (sheetWith 1 1 12 20 (rowOf 15 48 3 1 0 (52 ∷ 18 ∷ [])))) 0
+    ∷ gives (checking (sheetWith 1 1 12 20 (rowOf 15 48 3 1 0 (52 ∷ [])))) 70
+    ∷ gives (checking (sheetWith 1 1 12 20 (rowOf 15 48 3 1 0 (52 ∷ 18 ∷ 0 ∷ [])))) 70
+    ∷ gives (checking (sheetWith 1 1 12 20 (rowOf 15 48 3 1 1 (52 ∷ 18 ∷ [])))) 70
+    ∷ gives (checking (sheetWith 1 1 12 20 (rowOf 0 48 1 1 0 (52 ∷ [])))) 69
+    ∷ gives (checking (sheetWith 1 1 12 20 (rowOf 160 48 1 1 0 (52 ∷ [])))) 0
+    ∷ gives (checking (sheetWith 1 1 12 20 (rowOf 161 48 1 1 0 (52 ∷ [])))) 69
+    ∷ gives (checking (sheetWith 1 1 12 20 (rowOf 15 48 0 1 0 []))) 69
+    ∷ gives (checking (sheetWith 1 1 12 20 (rowOf 15 48 8 1 0 []))) 69
+    ∷ gives (checking (sheetWith 1 1 12 20 (rowOf 15 48 1 0 0 []))) 69
+    ∷ gives (checking (sheetWith 1 1 12 20 (rowOf 15 48 1 240 0 (replicate 240 1)))) 0
+    ∷ gives (checking (sheetWith 1 1 12 20 (rowOf 15 48 1 241 0 (replicate 241 1)))) 69
+    ∷ gives (checking (sheetWith 1 1 12 20 (rowOf 15 48 3 121 0 (replicate 242 1)))) 69
+    ∷ gives (checking (sheetWith 1 2 12 28 (rowOf 15 48 1 1 0 (rowOf 15 48 1 1 1 (1 ∷ 2 ∷ []))))) 68
+    ∷ gives (checking (sheetWith 1 2 12 28 (rowOf 16 48 1 1 0 (rowOf 15 49 1 1 1 (1 ∷ 2 ∷ []))))) 68
+    ∷ gives (checking (sheetWith 1 2 12 28 (rowOf 15 49 1 1 0 (rowOf 16 48 1 1 1 (1 ∷ 2 ∷ []))))) 0
+    ∷ gives (checking (sheetWith 1 3 12 36 (rowOf 0 48 1 1 0 (rowOf 15 48 1 1 1 (rowOf 15 47 1 1 2 (1 ∷ 2 ∷ 3 ∷ [])))))) 68
+    ∷ gives (checking (sheetWith 3 0 12 12 [])) 66
+    ∷ gives (checking (1 ∷ 1 ∷ 0 ∷ 0 ∷ 12 ∷ 0 ∷ 0 ∷ 0 ∷ 12 ∷ 0 ∷ 0 ∷ 0 ∷ [])) 66
+    ∷ gives (checking (1 ∷ 0 ∷ 129 ∷ 0 ∷ 12 ∷ 0 ∷ 0 ∷ 0 ∷ 20 ∷ 4 ∷ 0 ∷ 0 ∷ replicate 1032 1)) 67
+    ∷ gives (checking (1 ∷ 0 ∷ 128 ∷ 0 ∷ 12 ∷ 0 ∷ 0 ∷ 0 ∷ 12 ∷ 4 ∷ 0 ∷ 0 ∷ replicate 1024 1)) 68
+    ∷ gives (checking (sheetWith 1 2 12 28 (rowOf 15 48 1 1 0 (rowOf 15 49 8 1 1 (1 ∷ 2 ∷ []))))) 69
+    ∷ gives (checking (sheetWith 1 2 12 28 (rowOf 15 48 1 1 5 (rowOf 15 49 8 1 1 (1 ∷ 2 ∷ []))))) 69
+    ∷ gives (readingSheet (sheetWith 1 2 12 28 (rowOf 15 48 1 1 0 (rowOf 15 49 1 1 1 (1 ∷ 2 ∷ [])))) 1 (0 ∷ [])) 0
+    ∷ gives (readingSheet (sheetWith 1 1 12 20 (rowOf 15 48 3 1 0 (52 ∷ 18 ∷ []))) 1 []) 56
+    ∷ gives (readingSheet (sheetWith 1 1 12 20 (rowOf 15 48 3 1 0 (52 ∷ 18 ∷ []))) 0 (0 ∷ [])) 57
+    ∷ gives (readingSheet (sheetWith 1 1 12 20 (rowOf 15 48 3 1 0 (52 ∷ 18 ∷ []))) 0 (0 ∷ 0 ∷ [])) 0
+    ∷ gives (readingSheet (sheetWith 2 1 12 20 (rowOf 15 48 3 1 0 (52 ∷ 18 ∷ []))) 0 (0 ∷ 0 ∷ [])) 66
+    ∷ gives (writingSheet (replicate 1032 1) [] []) 79
+    ∷ gives (writingSheet (replicate 1024 1) [] []) 68
+    ∷ gives (writingSheet (rowOf 15 48 3 1 1 []) (1 ∷ []) []) 69
+    ∷ gives (writingSheet (rowOf 15 48 3 1 2 []) (1 ∷ []) []) 69
+    ∷ gives (writingSheet (rowOf 15 48 3 1 1 []) (52 ∷ 18 ∷ []) []) 69
+    ∷ gives (writingSheet (rowOf 15 48 3 1 3 []) (52 ∷ 18 ∷ []) []) 69
+    ∷ gives (writingSheet (rowOf 15 48 3 1 2 []) (52 ∷ 18 ∷ 0 ∷ []) []) 69
+    ∷ gives (writingSheet (rowOf 15 48 3 1 2 (15 ∷ [])) (52 ∷ 18 ∷ []) []) 69
+    ∷ gives (writingSheet (rowOf 15 48 3 1 2 (replicate 7 0)) (52 ∷ 18 ∷ []) []) 69
+    ∷ gives (writingSheet (rowOf 15 48 3 1 2 []) (52 ∷ 18 ∷ []) (replicate 21 0)) 57
+    ∷ gives (writingSheet (rowOf 15 48 3 1 2 []) (52 ∷ 18 ∷ []) (replicate 22 0)) 0
     ∷ []

@@ -1,0 +1,109 @@
+use mathlib.Core.Path.{ap}
+use mathlib.Core.List.{List}
+use Prim.Native.Nat.{ℕ}
+use native.Mathlib.Omega.{arith}
+use Rattle.setting.specs.Setting.{heads, falls, unfit}
+use Rattle.sheet.specs.declared.Checked.the-variants as checked
+use Rattle.sheet.proofs.Steps.{counted, rows-few, record-found, no-record-found, misplaced-told}
+use borrow.Author.Needs.{needs}
+use Rattle.sheet.proofs.check_records.Statement.{statement}
+use Rattle.sheet.proofs.check_records.Tie as tie
+
+field-requires : tie.Need-field-requires
+field-requires c κs = search needs
+
+mul-end : tie.Need-mul-end
+mul-end c = record { fits = omega (arith, counted (c .before .before .args .sheet .now) (c .field .result) (c .field .ensures), c .before .before .pre) }
+
+add-end : tie.Need-add-end
+add-end c = record { fits = omega (arith, counted (c .before .before .args .sheet .now) (c .field .result) (c .field .ensures), c .before .before .pre) }
+
+sub-rows : tie.Need-sub-rows
+sub-rows c = search needs
+
+part-rows-start : tie.Need-part-rows-start
+part-rows-start c = search needs
+
+part-rows-end : tie.Need-part-rows-end
+part-rows-end c = omega (arith, counted (c .before .before .args .sheet .now) (c .field .result) (c .field .ensures), c .before .before .pre)
+
+first-fall-requires : tie.Need-first-fall-requires
+first-fall-requires c κs = search needs
+
+first-unfit-requires : tie.Need-first-unfit-requires
+first-unfit-requires c κs = search needs
+
+returns : tie.Need-returns
+returns c =
+    let f = c .before .before .before .before in
+    let n = counted (f .before .before .args .sheet .now) _ (f .field .ensures) in
+    rw (record-found _ (λ (rows : List ℕ). falls (heads rows)) _ _ n (f .before .before .pre .1) (c .before .before .first-fall .ensures) (c .if1 .taken))
+
+returns-2 : tie.Need-returns-2
+returns-2 c =
+    let found = c .before .before in
+    let f = found .before .before .before in
+    let sheet = f .before .before .args .sheet .now in
+    let n = counted sheet _ (f .field .ensures) in
+    let reach = f .before .before .pre .1 in
+    rw (
+      no-record-found sheet (λ (rows : List ℕ). falls (heads rows)) _ _ n reach (found .before .first-fall .ensures) (c .before .if1 .left),
+      record-found sheet (λ (rows : List ℕ). unfit (heads rows)) _ _ n reach (found .first-unfit .ensures) (c .if2 .taken),
+    )
+
+sub-is-misplaced : tie.Need-sub-is-misplaced
+sub-is-misplaced c =
+    let f = c .before .before .before .before .before in
+    omega (arith, counted (f .before .before .args .sheet .now) (f .field .result) (f .field .ensures), f .before .before .pre)
+
+is-misplaced-requires : tie.Need-is-misplaced-requires
+is-misplaced-requires c κs =
+    let f = c .before .before .before .before .before in
+    rows-few _ (f .field .result) (omega (arith, counted (f .before .before .args .sheet .now) (f .field .result) (f .field .ensures), f .before .before .pre))
+
+returns-3 : tie.Need-returns-3
+returns-3 c =
+    let found = c .before .before .before .before in
+    let f = found .before .before .before in
+    let sheet = f .before .before .args .sheet .now in
+    let n = counted sheet _ (f .field .ensures) in
+    let reach = f .before .before .pre .1 in
+    rw (
+      no-record-found sheet (λ (rows : List ℕ). falls (heads rows)) _ _ n reach (found .before .first-fall .ensures) (c .before .before .before .if1 .left),
+      no-record-found sheet (λ (rows : List ℕ). unfit (heads rows)) _ _ n reach (found .first-unfit .ensures) (c .before .before .if2 .left),
+      misplaced-told sheet _ n reach (c .before .is-misplaced .ensures),
+      c .if3 .taken,
+    )
+
+returns-4 : tie.Need-returns-4
+returns-4 c =
+    let found = c .before .before .before .before in
+    let f = found .before .before .before in
+    let sheet = f .before .before .args .sheet .now in
+    let n = counted sheet _ (f .field .ensures) in
+    let reach = f .before .before .pre .1 in
+    rw (
+      no-record-found sheet (λ (rows : List ℕ). falls (heads rows)) _ _ n reach (found .before .first-fall .ensures) (c .before .before .before .if1 .left),
+      no-record-found sheet (λ (rows : List ℕ). unfit (heads rows)) _ _ n reach (found .first-unfit .ensures) (c .before .before .if2 .left),
+      misplaced-told sheet _ n reach (c .before .is-misplaced .ensures),
+      c .if3 .left,
+    ) (ap checked.Right n)
+
+pub check-records-spec : {M : Type 1} → statement M
+check-records-spec =
+    tie.close
+    (tie.spec
+    field-requires
+    mul-end
+    add-end
+    sub-rows
+    part-rows-start
+    part-rows-end
+    first-fall-requires
+    first-unfit-requires
+    returns
+    returns-2
+    sub-is-misplaced
+    is-misplaced-requires
+    returns-3
+    returns-4)
