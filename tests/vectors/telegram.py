@@ -41,8 +41,13 @@ def message(dest=15, src=162, sort=5, register=48, data=b"\x03"):
     return sealed(bytes([dest, src, sort, register]) + data)
 
 
-# the example of the call format itself
-for line in ("rem 0fa20466", "read 0d0fa204 ffff", "val.put 4 -2 000000", "cat 104 50"):
+# the examples of the call format itself
+for line in (
+    "rem 0fa20466", "read 0d0fa204 ffff", "val.put 4 -2 000000", "cat 104 50",
+    "sheet.write 15:48:3:1:3412;15:50:1:2:0102 000000000000000000000000000000000000000000000000000000000000000000000000",
+    "sheet.check 010002000c0000001c0000000f300301000000000f320102020000003412",
+    "sheet.read 010002000c0000001c0000000f300301000000000f3201020200000034120102 1 00000000",
+):
     print(line)
 
 # T1 to T4, and the telegrams of the manual's sections 2.2 to 2.4: example 3's reply as printed, then converted
@@ -162,5 +167,5 @@ for line in ("val.get 0 00 0", "val.get 8 00 0", "val.get 1 - 0", "val.put 0 0 0
     print(line)
 
 # lines that are no calls
-for line in ("", "rem", "rem 0", "rem 0G", "rem 0FA2", "rem 00 ", " rem 00", "rem  00", "read 0d0a", "write 256 1 1 1 - -", "write 1 1 1 1 -", "val.get 1 00 18446744073709551616", "val.put 1 - 00", "val.put 1 +1 00", "val.put 1 -0 00", "nothing", "rem 00 00"):
+for line in ("", "rem", "rem 0", "rem 0G", "rem 0FA2", "rem 00 ", " rem 00", "rem  00", "read 0d0a", "write 256 1 1 1 - -", "write 1 1 1 1 -", "val.get 1 00 18446744073709551616", "val.put 1 - 00", "val.put 1 +1 00", "val.put 1 -0 00", "nothing", "rem 00 00", "sheet.check", "sheet.write 256:48:1:1:01 -"):
     print(line)

@@ -66,6 +66,32 @@ pub fn ok(out: &mut [u8]) -> usize {
     text(out, 0, b"ok")
 }
 
+// A whole answer by its form, with the next number for each `#`.
+pub fn form(out: &mut [u8], form: &[u8], numbers: &[u64]) -> usize {
+    let mut at = 0;
+    let mut taken = 0;
+    let mut i = 0;
+    while i < form.len() {
+        let byte = form[i];
+        i += 1;
+        if byte == b'#' {
+            at = nth(out, at, numbers, taken);
+            taken += 1;
+        } else {
+            at = text(out, at, &[byte]);
+        }
+    }
+    at
+}
+
+// The number at a place of a list.
+fn nth(out: &mut [u8], at: usize, numbers: &[u64], place: usize) -> usize {
+    if place < numbers.len() {
+        return number(out, at, numbers[place]);
+    }
+    at
+}
+
 pub fn refused(out: &mut [u8], n: u8) -> usize {
     field(out, 0, b"no ", n as u64)
 }

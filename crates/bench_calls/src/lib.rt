@@ -113,8 +113,8 @@ fn building(answer: Building, out: &mut [u8]) -> usize {
 
 // bench.tele FRAME BUF
 fn tele(b: Bench, made: bool, w: Words, line: &[u8], out: &mut [u8]) -> Shown {
-    let mut frame = [0u8; 4096];
-    let mut room = [0u8; 4096];
+    let mut frame = [0u8; words::MOST];
+    let mut room = [0u8; words::MOST];
     let p = words::bytes(w, line, &mut frame);
     let q = words::bytes(p, line, &mut room);
     if words::done(q, line) {

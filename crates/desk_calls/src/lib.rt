@@ -67,8 +67,8 @@ fn renew(d: Desk, w: Words, line: &[u8], out: &mut [u8]) -> Told {
 
 // desk.open JOB MODULE TYPE REG DATA WAIT FOLDER CLOCK BUF
 fn open(d: Desk, w: Words, line: &[u8], out: &mut [u8]) -> Told {
-    let mut data = [0u8; 4096];
-    let mut room = [0u8; 4096];
+    let mut data = [0u8; words::MOST];
+    let mut room = [0u8; words::MOST];
     let ask = take_ask(w, line);
     let p = words::bytes(ask.words, line, &mut data);
     let times = take_times(p, line);
@@ -149,8 +149,8 @@ fn opened(answer: Opening, out: &mut [u8]) -> usize {
 
 // desk.reply FRAME BUF
 fn reply(d: Desk, w: Words, line: &[u8], out: &mut [u8]) -> Told {
-    let mut frame = [0u8; 4096];
-    let mut room = [0u8; 4096];
+    let mut frame = [0u8; words::MOST];
+    let mut room = [0u8; words::MOST];
     let p = words::bytes(w, line, &mut frame);
     let q = words::bytes(p, line, &mut room);
     if words::done(q, line) {

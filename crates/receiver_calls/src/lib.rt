@@ -45,7 +45,7 @@ fn renew(l: Listing, w: Words, line: &[u8], out: &mut [u8]) -> Heard {
 
 // rx.feed BYTES
 fn feed(l: Listing, w: Words, line: &[u8], out: &mut [u8]) -> Heard {
-    let mut chunk = [0u8; 4096];
+    let mut chunk = [0u8; words::MOST];
     let p = words::bytes(w, line, &mut chunk);
     if words::done(p, line) {
         let n = count(p.value, &chunk);

@@ -13,7 +13,7 @@ use varia_calls::Rig;
 use words::Words;
 
 // A line that is longer than this is a bad line.
-const LONGEST: usize = 8192;
+const LONGEST: usize = 65536;
 
 // No answer is longer: that of rx.feed has at most 32 bytes, an `at P dropped;`, for each two
 // characters of its line.
@@ -48,11 +48,16 @@ struct Said {
 fn main() {
     let mut line = [0u8; LONGEST];
     let mut out = [0u8; LONGEST_ANSWER];
-    run(&mut line, &mut out);
+    lend(&mut line, &mut out);
 }
 
-// Reads chunk after chunk. The line and the answer have their space lent, once for all. Half a line
-// at which reading fails is not answered.
+// Lends the line and the answer their space, once for all. It comes as arrays, since that `main` had
+// slices of such lengths would be proved element by element, too many of them for the prover.
+fn lend(line: &mut [u8; LONGEST], out: &mut [u8; LONGEST_ANSWER]) {
+    run(line, out);
+}
+
+// Reads chunk after chunk. Half a line at which reading fails is not answered.
 fn run(line: &mut [u8], out: &mut [u8]) {
     let mut chunk = io::large_buffer();
     let mut gathered = next_line(nothing(), 0);
@@ -305,6 +310,9 @@ fn answer_kept(w: Words, line: &[u8], out: &mut [u8]) -> usize {
     }
     if words::is(w, line, b"write") {
         return telegram_calls::write(w, line, out);
+    }
+    if words::starts(w, line, b"sheet.") {
+        return sheet_calls::answer(w, line, out);
     }
     values_calls::answer(w, line, out)
 }

@@ -8,7 +8,7 @@ use words::count;
 
 // rem BYTES
 pub fn rem(w: Words, line: &[u8], out: &mut [u8]) -> usize {
-    let mut space = [0u8; 4096];
+    let mut space = [0u8; words::MOST];
     let p = words::bytes(w, line, &mut space);
     if words::done(p, line) {
         let n = count(p.value, &space);
@@ -21,8 +21,8 @@ pub fn rem(w: Words, line: &[u8], out: &mut [u8]) -> usize {
 
 // read FRAME BUF
 pub fn read(w: Words, line: &[u8], out: &mut [u8]) -> usize {
-    let mut frame = [0u8; 4096];
-    let mut room = [0u8; 4096];
+    let mut frame = [0u8; words::MOST];
+    let mut room = [0u8; words::MOST];
     let p = words::bytes(w, line, &mut frame);
     let q = words::bytes(p, line, &mut room);
     if words::done(q, line) {
@@ -63,8 +63,8 @@ fn addresses(t: Fields, out: &mut [u8]) -> usize {
 
 // write DEST SRC TYPE REG DATA BUF
 pub fn write(w: Words, line: &[u8], out: &mut [u8]) -> usize {
-    let mut data = [0u8; 4096];
-    let mut room = [0u8; 4096];
+    let mut data = [0u8; words::MOST];
+    let mut room = [0u8; words::MOST];
     let f = take_four(w, line);
     let p = words::bytes(f.words, line, &mut data);
     let q = words::bytes(p, line, &mut room);

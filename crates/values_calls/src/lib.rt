@@ -22,7 +22,7 @@ pub fn answer(w: Words, line: &[u8], out: &mut [u8]) -> usize {
 
 // val.get KIND BYTES INDEX
 fn get(w: Words, line: &[u8], out: &mut [u8]) -> usize {
-    let mut space = [0u8; 4096];
+    let mut space = [0u8; words::MOST];
     let a = words::number(w, line, 255);
     let p = words::bytes(a, line, &mut space);
     let q = words::number(p, line, 18446744073709551615);
@@ -57,7 +57,7 @@ fn say_value(value: Value, out: &mut [u8], at: usize) -> usize {
 
 // val.put KIND VALUE BUF
 fn put(w: Words, line: &[u8], out: &mut [u8]) -> usize {
-    let mut room = [0u8; 4096];
+    let mut room = [0u8; words::MOST];
     let a = words::number(w, line, 255);
     let v = words::signed(a, line);
     let q = words::bytes(v, line, &mut room);

@@ -117,7 +117,7 @@ fn renew(rig: Rig, w: Words, line: &[u8], out: &mut [u8]) -> Filtered {
 // varia.short, varia.long or varia.att VALUE WAIT CLOCK BUF; varia.monitor or varia.status WAIT
 // CLOCK BUF
 fn ask(rig: Rig, wanted: Wanted, w: Words, line: &[u8], out: &mut [u8]) -> Filtered {
-    let mut room = [0u8; 4096];
+    let mut room = [0u8; words::MOST];
     let terms = take_terms(wanted, w, line);
     let p = words::bytes(terms.words, line, &mut room);
     if words::done(p, line) {
@@ -216,8 +216,8 @@ fn opened(answer: Asking, out: &mut [u8]) -> usize {
 
 // varia.display FRESH KEPT
 fn display(made: bool, w: Words, line: &[u8], out: &mut [u8]) -> usize {
-    let mut fresh = [0u8; 4096];
-    let mut kept = [0u8; 4096];
+    let mut fresh = [0u8; words::MOST];
+    let mut kept = [0u8; words::MOST];
     let p = words::bytes(w, line, &mut fresh);
     let q = words::bytes(p, line, &mut kept);
     if words::done(q, line) {

@@ -1,14 +1,21 @@
 // The words of a call line: parted by one blank, numbers in decimal, bytes in lower-case hex with
-// `-` for none. A part of the test tool `rehearsal`, and of test programs whose calls are lines.
+// `-` for none. The parts of a word that is a list are taken in the same way, parted by another byte.
+// A part of the test tool `rehearsal`, and of test programs whose calls are lines.
 ghost use Rattle.io.specs.Counts.{Counts};
 ghost use mathlib.Core.Path.{_≡_};
 ghost use mathlib.Core.Bool.{true};
 ghost use Prim.Native.Nat.{_+_, _*_, _≤_, max};
 ghost use lib.ListN.{length};
 
+// The most bytes that a word of a line can hold: a line has at most 65536 characters.
+pub const MOST: usize = 32768;
+
+// How many bytes a word holds that does not hold bytes; no word holds so many.
+const NO_BYTES: u64 = 18446744073709551615;
+
 // How far a line was read. `at` is where the next word starts, one past the line's end once its
 // last word was taken; `good` turns false for good when a word is missing or does not parse. The
-// rest is what the last word was: its place, or its number and sign.
+// rest is what the last word was, its place, or its number and sign, and what stands between words.
 pub struct Words {
     pub at: usize,
     pub good: bool,
@@ -16,9 +23,15 @@ pub struct Words {
     pub to: usize,
     pub value: u64,
     pub minus: bool,
+    pub between: u8,
 }
 
 pub fn start() -> Words {
+    parts(b' ')
+}
+
+// The same for parts that this byte stands between.
+pub fn parts(between: u8) -> Words {
     Words {
         at: 0,
         good: true,
@@ -26,6 +39,7 @@ pub fn start() -> Words {
         to: 0,
         value: 0,
         minus: false,
+        between: between,
     }
 }
 
@@ -41,7 +55,7 @@ pub fn word(w: Words, line: &[u8]) -> Words {
     if line.len() < from {
         return bad(w);
     }
-    let to = seek(line, from, b' ');
+    let to = seek(line, from, w.between);
     Words {
         at: std::num::wrapping_add_usize(to, 1),
         good: w.good,
@@ -49,6 +63,7 @@ pub fn word(w: Words, line: &[u8]) -> Words {
         to: to,
         value: 0,
         minus: false,
+        between: w.between,
     }
 }
 
@@ -78,40 +93,48 @@ pub fn bytes(w: Words, line: &[u8], room: &mut [u8]) -> Words {
     let next = word(w, line);
     let from = next.from;
     let to = next.to;
-    if is_dash(line, from, to) {
+    if is_dash(taken(next, line)) {
         return next;
     }
     let count = unhex(line, from, to, room);
-    if count < 8192 {
+    if count < NO_BYTES {
         with_value(next, count)
     } else {
         bad(next)
     }
 }
 
-// Whether the word last taken is this one.
-pub fn is(w: Words, line: &[u8], name: &[u8]) -> bool {
+// The word last taken; nothing where it is not in the line.
+pub fn taken(w: Words, line: &[u8]) -> &[u8] {
     let from = w.from;
     let to = w.to;
     if to <= line.len() {
         if from <= to {
-            return check::same(&line[from..to], name);
+            return &line[from..to];
         }
     }
-    false
+    &line[0..0]
+}
+
+// Whether the word last taken is this one.
+pub fn is(w: Words, line: &[u8], name: &[u8]) -> bool {
+    check::same(taken(w, line), name)
 }
 
 // Whether the word last taken begins with this.
 pub fn starts(w: Words, line: &[u8], with: &[u8]) -> bool {
-    let from = w.from;
-    let to = w.to;
-    if to <= line.len() {
-        if from <= to {
-            if with.len() <= to - from {
-                let end = from + with.len();
-                return check::same(&line[from..end], with);
-            }
-        }
+    let word = taken(w, line);
+    let end = with.len();
+    if end <= word.len() {
+        return check::same(&word[0..end], with);
+    }
+    false
+}
+
+// Whether a word is the `-` that stands for none.
+pub fn is_dash(word: &[u8]) -> bool {
+    if word.len() == 1 {
+        return word[0] == b'-';
     }
     false
 }
@@ -170,15 +193,6 @@ fn starts_with_minus(w: Words, line: &[u8]) -> bool {
     }
 }
 
-fn is_dash(line: &[u8], from: usize, to: usize) -> bool {
-    if from < line.len() {
-        if to == from + 1 {
-            return line[from] == b'-';
-        }
-    }
-    false
-}
-
 // The decimal number from a place to the word's end, as its value.
 fn digits(w: Words, line: &[u8], from: usize, most: u64) -> Words {
     let to = w.to;
@@ -226,35 +240,35 @@ fn fits(value: u64, d: u64, most: u64) -> bool
     value <= (most - d) / 10
 }
 
-// The bytes that pairs of hex digits stand for, into the room's first places; how many, or 8192
+// The bytes that pairs of hex digits stand for, into the room's first places; how many, or `NO_BYTES`
 // where it is no such text or there is no room.
 fn unhex(line: &[u8], from: usize, to: usize, room: &mut [u8]) -> u64 {
     if line.len() < to {
-        return 8192;
+        return NO_BYTES;
     }
     let mut i = from;
     let mut n: u64 = 0;
     while i < to {
         if to - i < 2 {
-            return 8192;
+            return NO_BYTES;
         }
         let high = nibble(line[i]);
         let low = nibble(line[i + 1]);
         let at = n as usize;
         if 15 < high {
-            return 8192;
+            return NO_BYTES;
         }
         if 15 < low {
-            return 8192;
+            return NO_BYTES;
         }
         if room.len() <= at {
-            return 8192;
+            return NO_BYTES;
         }
         room[at] = high * 16 + low;
         n += 1;
         i += 2;
     }
-    if n == 0 { 8192 } else { n }
+    if n == 0 { NO_BYTES } else { n }
 }
 
 // The hex digit that a byte is, or 16.
