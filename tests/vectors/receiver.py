@@ -5,7 +5,7 @@ import re
 import sys
 
 LARGEST = 2**64 - 1
-LONGEST = (8192 - len("rx.feed ")) // 2  # bytes: no call line holds more
+LONGEST = (65536 - len("rx.feed ")) // 2  # bytes: no call line holds more
 
 
 def remainder(data):
@@ -199,13 +199,17 @@ end()
 feed(b"\n")
 end()
 
-# ---- the driver's longest chunk, and the longest answer that a call line can have
+# ---- the driver's longest chunk, one with a long answer at the largest places, and the longest that a call line can have
 
 night(ACK * 500)
-new(LARGEST - 1 - LONGEST)
+new(LARGEST - 1 - 4092)
+feed(b"\r")
+feed(b"\r" * 4092, b"\n")
+end()
+new()
 feed(b"\r")
 bad("rx.feed " + "0d" * (LONGEST + 1))
-feed(b"\r" * LONGEST, b"\n")
+feed(b"A" * (LONGEST - len(ACK) - 1) + b"\n" + ACK)
 end()
 
 for call, answer in script:

@@ -35,7 +35,7 @@ for text, known in KNOWN.items():
     assert remainder(bytes.fromhex(text)) == known, text
 
 strings = [bytes.fromhex(text) for text in KNOWN] + [bytes([byte]) for byte in range(256)]
-# 4094 bytes are the most that a call line holds
+# and strings as long as a message, and far longer
 strings += [bytes([byte]) * count for byte in (0x00, 0xFF, 0x5E) for count in (240, 246, 247, 4094)]
 for data in strings:
     print(f"rem {data.hex() or '-'}" if sys.argv[1:] == ["calls"] else f"ok rem={remainder(data)}")
