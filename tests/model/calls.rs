@@ -1,16 +1,20 @@
-//! Call scripts: a line is parsed, run on the desk, the box, the bench or the receiver, and its answer formatted.
+//! Call scripts: a line is parsed, run on the desk, the box, the bench, the receiver or a sheet, and its answer
+//! formatted.
 
 use crate::bench::{Bench, Register};
 use crate::catalogue;
 use crate::desk::{Desk, Request, Ticket};
 use crate::receiver::{Fed, Receiver};
 use crate::remainder::remainder;
+use crate::sheet::{self, Head, Setting};
 use crate::telegram::{self, Message, No, Refusal};
 use crate::values;
 use crate::varia::{self, Closing, Edge, Out, Shown, Varia, Wish};
 
 /// The longest line, its newline not counted, that is still a call.
-pub const LONGEST_LINE: usize = 8192;
+pub const LONGEST_LINE: usize = 65536;
+/// The most settings that a line may name, more than a sheet holds.
+pub const MOST_NAMED: usize = 200;
 const LEAST_VALUE: i128 = -9223372036854775808;
 const GREATEST_VALUE: i128 = 18446744073709551615;
 
@@ -35,6 +39,9 @@ enum Call {
     RxNew { place: u64 },
     RxFeed { chunk: Vec<u8> },
     RxEnd,
+    SheetWrite { settings: Vec<Setting>, buf: Vec<u8> },
+    SheetCheck { sheet: Vec<u8> },
+    SheetRead { sheet: Vec<u8>, index: u64, buf: Vec<u8> },
 }
 
 /// A call that needs a bench.
@@ -82,7 +89,7 @@ impl<'a> Words<'a> {
         u32::try_from(decimal(self.word()?)?).ok()
     }
 
-    /// The next word as a 64-bit number: an element's, or a place.
+    /// The next word as a 64-bit number: an element's or a record's, or a place.
     fn long_number(&mut self) -> Option<u64> {
         u64::try_from(decimal(self.word()?)?).ok()
     }
@@ -186,6 +193,9 @@ fn parse_call(name: &[u8], words: &mut Words) -> Option<Call> {
         b"rx.new" => Call::RxNew { place: words.long_number()? },
         b"rx.feed" => Call::RxFeed { chunk: words.bytes()? },
         b"rx.end" => Call::RxEnd,
+        b"sheet.write" => Call::SheetWrite { settings: parse_settings(words.word()?)?, buf: words.bytes()? },
+        b"sheet.check" => Call::SheetCheck { sheet: words.bytes()? },
+        b"sheet.read" => Call::SheetRead { sheet: words.bytes()?, index: words.long_number()?, buf: words.bytes()? },
         _ => return None,
     })
 }
@@ -207,6 +217,27 @@ fn parse_request(words: &mut Words) -> Option<Request> {
 fn parse_wish(wish: Wish, words: &mut Words) -> Option<Call> {
     let (wait, clock) = (words.number()?, words.number()?);
     Some(Call::OnVaria(VariaCall::Ask { wish, wait, clock, buf: words.bytes()? }))
+}
+
+/// SETTINGS, `-` for none: up to 200 of them, parted by semicolons.
+pub fn parse_settings(word: &[u8]) -> Option<Vec<Setting>> {
+    if word == b"-" {
+        return Some(Vec::new());
+    }
+    let named: Vec<&[u8]> = word.split(|byte| *byte == b';').collect();
+    if named.len() > MOST_NAMED {
+        return None;
+    }
+    named.into_iter().map(parse_setting).collect()
+}
+
+/// MODULE:REG:KIND:COUNT:HEX of one setting.
+fn parse_setting(named: &[u8]) -> Option<Setting> {
+    let mut words = Words(named.split(|byte| *byte == b':').collect::<Vec<&[u8]>>().into_iter());
+    let head = Head { module: words.byte()?, register: words.byte()?, kind: words.byte()?, count: words.byte()? };
+    let value = words.bytes()?;
+    words.end()?;
+    Some(Setting { head, value })
 }
 
 /// What the calls work on: the desk, the box and the bench once there is one, and the receiver.
@@ -263,6 +294,11 @@ impl Rehearsal {
             Call::RxNew { place } => ok(self.new_receiver(place)),
             Call::RxFeed { chunk } => fed(self.receiver.feed(&chunk)),
             Call::RxEnd => ok(format!("text={}", self.receiver.rest().replace('\n', "\\n"))),
+            Call::SheetWrite { settings, buf } => lent(buf, |room| sheet::write(&settings, room).map(length_field)),
+            Call::SheetCheck { sheet } => plain(sheet::check(&sheet).map(|held| format!("count={}", held.len()))),
+            Call::SheetRead { sheet, index, buf } => {
+                lent(buf, |room| sheet::read(&sheet, index, room).map(setting_fields))
+            }
         }
     }
 
@@ -386,9 +422,15 @@ fn read_fields(read: Message) -> (String, Vec<u8>) {
     (format!("dest={dest} src={source} type={type_no} reg={register} n={}", data.len()), data)
 }
 
-/// The length of a telegram, and the telegram for the buffer.
-fn length_field(telegram: Vec<u8>) -> (String, Vec<u8>) {
-    (format!("n={}", telegram.len()), telegram)
+/// The length of a telegram or a sheet, and its bytes for the buffer.
+fn length_field(written: Vec<u8>) -> (String, Vec<u8>) {
+    (format!("n={}", written.len()), written)
+}
+
+/// The fields of a record that was read, and its value for the buffer.
+fn setting_fields(Setting { head, value }: Setting) -> (String, Vec<u8>) {
+    let Head { module, register, kind, count } = head;
+    (format!("module={module} reg={register} kind={kind} count={count} n={}", value.len()), value)
 }
 
 /// The fields of a catalogue row.

@@ -4,11 +4,12 @@ use crate::calls::lines;
 use crate::filters::Filters;
 use crate::places::Places;
 use crate::rests::Rests;
+use crate::sheets::Sheets;
 use crate::telegram::No;
 use std::collections::BTreeMap;
 
 /// Each call with the numbers its order lists.
-const ORDERS: [(&str, &[No]); 29] = [
+const ORDERS: [(&str, &[No]); 32] = [
     ("rem", &[]),
     ("read", &[1, 2, 3, 4, 5, 6, 7, 8, 9]),
     ("write", &[5, 8, 9, 6]),
@@ -38,6 +39,9 @@ const ORDERS: [(&str, &[No]); 29] = [
     ("rx.new", &[]),
     ("rx.feed", &[60]),
     ("rx.end", &[]),
+    ("sheet.write", &[79, 68, 69, 57]),
+    ("sheet.check", &[65, 66, 67, 68, 69, 70]),
+    ("sheet.read", &[65, 66, 67, 68, 69, 70, 56, 57]),
 ];
 /// The lines that must also have been said of frames which lie in more than one chunk.
 const OVER_BORDERS: [&str; 4] = ["ok", "refused 5", "dropped", "open"];
@@ -98,11 +102,13 @@ pub fn count(script: &[u8], answers: &[u8]) -> (String, bool) {
     complaints.extend(filters.missing());
     let places = Places::of(&calls, &answers);
     complaints.extend(places.missing());
+    let sheets = Sheets::of(&calls, &answers);
+    complaints.extend(sheets.missing());
     if calls.len() != answers.len() {
         complaints.push(format!("{} calls but {} answers", calls.len(), answers.len()));
     }
     let told: String = complaints.iter().map(|line| format!("{line}\n")).collect();
-    let met = borders_line(over_borders) + &rests.lines() + &filters.lines() + &places.lines();
+    let met = borders_line(over_borders) + &rests.lines() + &filters.lines() + &places.lines() + &sheets.lines();
     (table(&counts) + &met + &told, complaints.is_empty())
 }
 

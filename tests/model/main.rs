@@ -17,6 +17,8 @@ mod receiver;
 mod remainder;
 mod rests;
 mod script;
+mod sheet;
+mod sheets;
 mod telegram;
 mod values;
 mod varia;

@@ -6,6 +6,7 @@ mod numbers;
 mod receiver_walk;
 mod rest_walk;
 mod rough;
+mod sheet_walk;
 mod telegrams;
 mod varia_walk;
 
@@ -81,6 +82,20 @@ const PLACE_ROUND: [Section; 4] = [
     receiver_walk::broken_frames,
 ];
 
+/// The sections on settings sheets, after those on broken frames, with a generator of their own as well.
+const SHEET_ROUND: [Section; 10] = [
+    rough::sheet_lines,
+    sheet_walk::writes,
+    sheet_walk::limits,
+    sheet_walk::misordered,
+    sheet_walk::unwritable,
+    sheet_walk::right_sheets,
+    sheet_walk::altered,
+    sheet_walk::headers,
+    sheet_walk::offsets,
+    sheet_walk::several_faults,
+];
+
 /// The script of a seed, of so many lines, each ended by one newline.
 pub fn write(seed: u64, calls: usize) -> Vec<u8> {
     let mut script = Script { random: Random::new(seed), rehearsal: Rehearsal::new(), lines: Vec::new() };
@@ -88,14 +103,18 @@ pub fn write(seed: u64, calls: usize) -> Vec<u8> {
     desk_walk::no_desk_yet(&mut script);
     receiver_walk::no_receiver_yet(&mut script);
     varia_walk::no_box_yet(&mut script);
+    rough::longest_lines(&mut script);
+    sheet_walk::largest(&mut script);
     let mut receiver_random = Random::new(!seed);
     let mut varia_random = Random::new(seed.rotate_left(32) ^ 0x5641_5249_4100);
     let mut place_random = Random::new(!seed.rotate_left(32) ^ 0x504C_4143_4500);
+    let mut sheet_random = Random::new(seed.rotate_left(16) ^ 0x5348_4545_5400);
     while script.lines.len() < calls {
         script.round(ROUND);
         script.round_with(&mut receiver_random, RECEIVER_ROUND);
         script.round_with(&mut varia_random, VARIA_ROUND);
         script.round_with(&mut place_random, PLACE_ROUND);
+        script.round_with(&mut sheet_random, SHEET_ROUND);
     }
     script.lines.truncate(calls);
     script.lines.iter().flat_map(|line| [line.as_slice(), b"\n"].concat()).collect()

@@ -96,6 +96,19 @@ ok moving=1
 ok short=? long=? out=163:short:6000
 ";
 
+/// The part of the same example that is about settings sheets.
+const SHEET_CALLS: &str = "\
+sheet.write 15:48:3:1:3412;15:50:1:2:0102 000000000000000000000000000000000000000000000000000000000000000000000000
+sheet.check 010002000c0000001c0000000f300301000000000f320102020000003412
+sheet.read 010002000c0000001c0000000f300301000000000f3201020200000034120102 1 00000000
+";
+
+const SHEET_ANSWERS: &str = "\
+ok n=32 buf=010002000c0000001c0000000f300301000000000f320102020000003412010200000000
+no 70
+ok module=15 reg=50 kind=1 count=2 n=2 buf=01020000
+";
+
 const RECEIVER_CALLS: &str = "\
 rx.new 0
 rx.feed 0da20f030d
@@ -136,6 +149,9 @@ pub fn report() -> (String, bool) {
         placed_lines(),
         receivers(),
         last_places(),
+        sheets(),
+        unwritten_sheets(),
+        wrong_sheets(),
     ]
     .into_iter()
     .flatten()
@@ -504,5 +520,98 @@ fn last_places() -> Vec<Check> {
             &new("18446744073709551616", "rx.end"),
             "bad line\nok text=ok 0 refused 0 dropped 0\\n",
         ),
+    ]
+}
+
+/// The sheets' part of the call scripts' example, the empty sheet, both sides of the most settings and of the most
+/// bytes of a value, and rooms.
+fn sheets() -> Vec<Check> {
+    let many = |count: usize| {
+        let each: Vec<String> = (0..count).map(|register| format!("1:{register}:1:1:a1")).collect();
+        each.join(";")
+    };
+    let written = |name, settings: &str, room: usize, want: &str| {
+        let said = answers(format!("sheet.write {settings} {}", "ee".repeat(room)).as_bytes());
+        Check { name, got: said.chars().take(want.len()).collect(), want: want.to_string() }
+    };
+    let value = |kind: u8, count: u8, bytes: usize| format!("160:255:{kind}:{count}:{}", "a1".repeat(bytes));
+    let empty = "010000000c0000000c000000";
+    let one = "010001000c000000140000000f300301000000003412";
+    vec![
+        calls("the call scripts' example of a sheet", SHEET_CALLS, SHEET_ANSWERS),
+        calls("no settings", "sheet.write - eeeeeeeeeeeeeeeeeeeeeeeeee", &format!("ok n=12 buf={empty}ee")),
+        calls("the empty sheet", &format!("sheet.check {empty}"), "ok count=0"),
+        calls("the empty sheet and a 13th byte", &format!("sheet.check {empty}00"), "no 70"),
+        calls("no record of the empty sheet", &format!("sheet.read {empty} 0 -"), "no 56 buf=-"),
+        written("128 settings", &many(128), 1164, "ok n=1164 "),
+        written("129 settings", &many(129), 1200, "no 79 "),
+        written("200 settings", &many(200), 1, "no 79 "),
+        calls("201 settings are no call", &format!("sheet.write {} -", many(201)), "bad line"),
+        written("240 of U8", &value(1, 240, 240), 260, "ok n=260 "),
+        written("241 of U8", &value(1, 241, 241), 261, "no 69 "),
+        written("120 of I16", &value(4, 120, 240), 260, "ok n=260 "),
+        written("121 of I16", &value(4, 121, 242), 262, "no 69 "),
+        written("30 of U64", &value(7, 30, 240), 260, "ok n=260 "),
+        written("31 of U64", &value(7, 31, 248), 268, "no 69 "),
+        written("a room one short", &value(7, 30, 240), 259, "no 57 "),
+        calls(
+            "a value with room",
+            &format!("sheet.read {one} 0 eeeeee"),
+            "ok module=15 reg=48 kind=3 count=1 n=2 buf=3412ee",
+        ),
+        calls("a value without", &format!("sheet.read {one} 0 ee"), "no 57 buf=ee"),
+        calls("56 ahead of 57", &format!("sheet.read {one} 1 -"), "no 56 buf=-"),
+        calls("the largest index", &format!("sheet.read {one} 18446744073709551615 eeee"), "no 56 buf=eeee"),
+    ]
+}
+
+/// The writer's numbers and their order: 79, 68, 69, 57, each over all settings before the next.
+fn unwritten_sheets() -> Vec<Check> {
+    let refused = |name, settings: &str, want: &str| {
+        calls(name, &format!("sheet.write {settings} ee"), &format!("no {want} buf=ee"))
+    };
+    vec![
+        refused("equal settings", "15:48:1:1:a1;15:48:1:1:a1", "68"),
+        refused("a lower register", "15:48:1:1:a1;15:47:1:1:a1", "68"),
+        refused("a lower module", "15:48:1:1:a1;14:49:1:1:a1", "68"),
+        refused("a lower register of a higher module", "15:48:1:1:a1;16:47:1:1:a1", "57"),
+        refused("module 0", "0:48:1:1:a1", "69"),
+        refused("module 161", "161:48:1:1:a1", "69"),
+        refused("kind 0", "15:48:0:1:a1", "69"),
+        refused("kind 8", "15:48:8:1:a1", "69"),
+        refused("no elements", "15:48:1:0:-", "69"),
+        refused("a value one short", "15:48:3:1:a1", "69"),
+        refused("a value one long", "15:48:3:1:a1a2a3", "69"),
+        refused("68 behind 69's setting", "15:48:8:1:a1;15:49:1:1:a1;15:49:1:1:a1", "68"),
+        refused("68 before 69's setting", "15:48:1:1:a1;15:48:1:1:a1;15:49:8:1:a1", "68"),
+        refused("79 with all the others", &vec!["0:0:0:0:-"; 129].join(";"), "79"),
+    ]
+}
+
+/// The reader's numbers and their order: 65 to 70, each over the whole sheet before the next.
+fn wrong_sheets() -> Vec<Check> {
+    let sheet = |header: &str, records: &str, values: &str| format!("{header}{records}{values}").replace(' ', "");
+    let refused = |name, sheet: String, want: &str| calls(name, &format!("sheet.check {sheet}"), want);
+    let (right, first, second) = ("0100 0200 0c000000 1c000000", "0f300301 00000000", "0f320102 02000000");
+    let two = [first, second].concat();
+    vec![
+        refused("two records", sheet(right, &two, "34120102"), "ok count=2"),
+        refused("11 bytes", sheet("0200 ffff 0d000000 ffffff", "", ""), "no 65"),
+        refused("version 2 ahead of a wrong header", sheet("0200 ffff 0d000000 ffffffff", "", ""), "no 66"),
+        refused("version 257", sheet("0101 0200 0c000000 1c000000", &two, "34120102"), "no 66"),
+        refused("the records' offset", sheet("0100 0200 0d000000 1c000000", &two, "34120102"), "no 67"),
+        refused("the values' offset", sheet("0100 0200 0c000000 1d000000", &two, "34120102"), "no 67"),
+        refused("one record too few", sheet("0100 0100 0c000000 1c000000", &two, "34120102"), "no 67"),
+        refused("shorter than the values' offset", sheet(right, first, "0f320102020000"), "no 67"),
+        refused("no value at all", sheet(right, &two, ""), "no 70"),
+        refused("one byte less", sheet(right, &two, "341201"), "no 70"),
+        refused("one byte more", sheet(right, &two, "3412010200"), "no 70"),
+        refused("one record twice", sheet(right, &[first, first].concat(), "34120102"), "no 68"),
+        refused("records exchanged", sheet(right, &[second, first].concat(), "34120102"), "no 68"),
+        refused("68 behind 69's record", sheet(right, "0f320801 00000000 0f320102 09000000", "34"), "no 68"),
+        refused("kind 8 ahead of an offset", sheet(right, "0f300301 09000000 0f320802 02000000", "34"), "no 69"),
+        refused("an offset one more", sheet(right, "0f300301 00000000 0f320102 03000000", "34120102"), "no 70"),
+        refused("an offset with a high byte", sheet(right, "0f300301 00000000 0f320102 02000080", "34120102"), "no 70"),
+        refused("offsets from the start", sheet(right, "0f300301 1c000000 0f320102 1e000000", "34120102"), "no 70"),
     ]
 }

@@ -9,6 +9,8 @@ use crate::telegram::{END, LONGEST_TELEGRAM, START, SUBSTITUTION};
 
 /// The most bytes that a line can feed.
 pub const MOST_FED: usize = (LONGEST_LINE - "rx.feed ".len()) / 2;
+/// The bytes of a chunk that is longer than any the driver has, and still short enough to feed many of them.
+const LONG_CHUNK: usize = 4092;
 /// At how many places a capture is cut at most, so that the chunks of one don't fill the script.
 const MOST_PLACES: usize = 8;
 /// Lines that would make a fresh receiver, were they calls.
@@ -142,7 +144,7 @@ pub fn runaways(script: &mut Script) {
 
 /// A frame's start and some chunks of bytes without a mark.
 fn run_away(script: &mut Script) {
-    let lengths = [1, 2, 200, LONGEST_TELEGRAM - 1, LONGEST_TELEGRAM, 1000, MOST_FED];
+    let lengths = [1, 2, 200, LONGEST_TELEGRAM - 1, LONGEST_TELEGRAM, 1000, LONG_CHUNK];
     let (first, others) = (script.random.pick(&lengths), script.random.between(1, 4));
     let start = runaway(&mut script.random, first);
     feed(script, &start);

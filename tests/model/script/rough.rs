@@ -2,7 +2,7 @@
 
 use super::receiver_walk::MOST_FED;
 use super::{buffer, Script};
-use crate::calls::{hex, LONGEST_LINE};
+use crate::calls::{hex, LONGEST_LINE, MOST_NAMED};
 use crate::random::Random;
 
 /// One right line of each call.
@@ -40,6 +40,14 @@ const VARIA_SAMPLES: [&str; 9] = [
     "varia.display 3412 7856",
     "varia.moving 4096",
     "varia.dump",
+];
+
+/// The same of the calls on settings sheets.
+const SHEET_SAMPLES: [&str; 4] = [
+    "sheet.write 15:48:3:1:3412;15:50:1:2:0102 a1a2a3a4a5a6a7a8a9aaabacadaeafb0b1b2b3b4b5b6b7b8b9babbbcbdbebfc0c1",
+    "sheet.write - a1a2a3a4a5a6a7a8a9aaabacad",
+    "sheet.check 010002000c0000001c0000000f300301000000000f3201020200000034120102",
+    "sheet.read 010002000c0000001c0000000f300301000000000f3201020200000034120102 1 a1a2a3",
 ];
 
 /// Words that are wrong in some places or in all of them.
@@ -146,6 +154,45 @@ const NO_VARIA_CALLS: [&str; 24] = [
     "varia.dump 0",
 ];
 
+/// Lines that are no calls on settings sheets, and numbers one past their type.
+const NO_SHEET_CALLS: [&str; 35] = [
+    "sheet",
+    "sheet.",
+    "sheet.write",
+    "sheet.write -",
+    "sheet.write  a1a2a3",
+    "sheet.write - a1a2a3 -",
+    "sheet.write -- a1a2a3",
+    "sheet.write ; a1a2a3",
+    "sheet.write : a1a2a3",
+    "sheet.write 15 a1a2a3",
+    "sheet.write 15:48:3:1 a1a2a3",
+    "sheet.write 15:48:3:1: a1a2a3",
+    "sheet.write 15:48:3:1:341 a1a2a3",
+    "sheet.write 15:48:3:1:34AB a1a2a3",
+    "sheet.write 15:48:3:1:3412: a1a2a3",
+    "sheet.write 15:48:3:1:3412:0 a1a2a3",
+    "sheet.write 15:48:3:1:3412; a1a2a3",
+    "sheet.write ;15:48:3:1:3412 a1a2a3",
+    "sheet.write -;15:48:3:1:3412 a1a2a3",
+    "sheet.write 15:48:3:1:3412;- a1a2a3",
+    "sheet.write 15:48:3:1:3412,15:50:1:2:0102 a1a2a3",
+    "sheet.write 15:48::1:3412 a1a2a3",
+    "sheet.write :48:3:1:3412 a1a2a3",
+    "sheet.write 256:48:3:1:3412 a1a2a3",
+    "sheet.write 15:256:3:1:3412 a1a2a3",
+    "sheet.write 15:48:256:1:3412 a1a2a3",
+    "sheet.write 15:48:3:256:3412 a1a2a3",
+    "sheet.write -1:48:3:1:3412 a1a2a3",
+    "sheet.check",
+    "sheet.check - -",
+    "sheet.check 0",
+    "sheet.read - 0",
+    "sheet.read - -1 -",
+    "sheet.read - 18446744073709551616 -",
+    "Sheet.check -",
+];
+
 /// Every call with numbers from all over their types.
 pub fn any_numbers(script: &mut Script) {
     for _ in 0..9 {
@@ -186,7 +233,7 @@ fn any_call(random: &mut Random, which: usize) -> String {
     }
 }
 
-/// The calls on the receiver with any words, then lines that are none of them, or nearly, and the longest lines.
+/// The calls on the receiver with any words, then lines that are none of them, or nearly.
 pub fn receiver_lines(script: &mut Script) {
     for _ in 0..6 {
         let (place, bytes, more) = (script.random.bits(), any_bytes(&mut script.random), any_bytes(&mut script.random));
@@ -203,23 +250,30 @@ pub fn receiver_lines(script: &mut Script) {
         script.call(line);
     }
     script.call("rx.end");
-    longest_receiver_lines(script);
 }
 
-/// The longest lines on the receiver, one byte less and one more, and the chunk with the longest answer there is: as
-/// many frames dropped as a line can feed, at the last places.
-fn longest_receiver_lines(script: &mut Script) {
+/// Once a script, since they are long: the longest lines, one byte less and one more, of calls with a state and
+/// without; and the chunk with the longest answer there is: as many frames dropped as a line can feed, at the last
+/// places.
+pub fn longest_lines(script: &mut Script) {
+    script.call("varia.new 9 16");
     for length in [LONGEST_LINE - 1, LONGEST_LINE, LONGEST_LINE + 1] {
-        let digits = length - "rx.new ".len();
-        script.call(format!("rx.new {:0digits$}", u64::MAX - MOST_FED as u64));
+        for (call, number) in [("cat 103 ", 16), ("varia.moving ", 4096), ("rx.new ", u64::MAX - MOST_FED as u64)] {
+            let digits = length - call.len();
+            script.call(format!("{call}{number:0digits$}"));
+        }
+    }
+    for bytes in [LONGEST_LINE / 2 - 2, LONGEST_LINE / 2 - 1] {
+        script.call(format!("rem {}", "5e".repeat(bytes)));
     }
     for fed in [MOST_FED + 1, MOST_FED] {
         script.call(format!("rx.feed {}", "0d".repeat(fed)));
     }
     script.call("rx.end");
+    script.call("desk.new");
 }
 
-/// The calls on the filter box with any words, then lines that are none of them, or nearly, and the longest lines.
+/// The calls on the filter box with any words, then lines that are none of them, or nearly.
 pub fn varia_lines(script: &mut Script) {
     for _ in 0..6 {
         let mut order: Vec<usize> = (0..9).collect();
@@ -235,10 +289,6 @@ pub fn varia_lines(script: &mut Script) {
     }
     for line in NO_VARIA_CALLS {
         script.call(line);
-    }
-    for length in [LONGEST_LINE - 1, LONGEST_LINE, LONGEST_LINE + 1] {
-        let digits = length - "varia.moving ".len();
-        script.call(format!("varia.moving {:0digits$}", 4096));
     }
     script.call("varia.dump");
 }
@@ -261,6 +311,38 @@ fn any_varia_call(random: &mut Random, which: usize) -> String {
     }
 }
 
+/// The calls on settings sheets with any words, then lines that are none of them, or nearly, and the most settings that
+/// a line may name and one more.
+pub fn sheet_lines(script: &mut Script) {
+    for _ in 0..6 {
+        let random = &mut script.random;
+        let (count, index, buf) = (random.below(4), random.bits(), lent(random));
+        let named: Vec<String> = (0..count).map(|_| any_setting(random)).collect();
+        let named = if named.is_empty() { "-".to_string() } else { named.join(";") };
+        let (sheet, other) = (any_bytes(random), any_bytes(random));
+        script.call(format!("sheet.write {named} {buf}"));
+        script.call(format!("sheet.check {sheet}"));
+        script.call(format!("sheet.read {other} {index} {buf}"));
+    }
+    for sample in SHEET_SAMPLES.iter().cycle().take(4 * 8) {
+        let line = amiss(&mut script.random, sample);
+        script.call(line);
+    }
+    for line in NO_SHEET_CALLS {
+        script.call(line);
+    }
+    for count in [MOST_NAMED, MOST_NAMED + 1] {
+        let named: Vec<String> = (0..count).map(|register| format!("1:{}:1:1:a1", register % 256)).collect();
+        script.call(format!("sheet.write {} a1a2", named.join(";")));
+    }
+}
+
+/// A setting with numbers of any value, as a call line names it.
+fn any_setting(random: &mut Random) -> String {
+    let (module, register, kind, count) = (random.byte(), random.byte(), random.byte() % 9, random.byte());
+    format!("{module}:{register}:{kind}:{count}:{}", any_bytes(random))
+}
+
 /// Up to 40 bytes of any value, as hex.
 fn any_bytes(random: &mut Random) -> String {
     let length = random.below(41);
@@ -272,7 +354,7 @@ fn lent(random: &mut Random) -> String {
     hex(&buffer(random.below(41)))
 }
 
-/// Lines that are no calls, or nearly: each call's line with a word or a byte amiss, and the longest lines.
+/// Lines that are no calls, or nearly: each call's line with a word or a byte amiss.
 pub fn bad_lines(script: &mut Script) {
     for sample in SAMPLES.iter().cycle().take(17 * 5) {
         let line = amiss(&mut script.random, sample);
@@ -281,12 +363,6 @@ pub fn bad_lines(script: &mut Script) {
     for line in NO_CALLS {
         script.call(line);
     }
-    for length in [LONGEST_LINE - 1, LONGEST_LINE, LONGEST_LINE + 1] {
-        let digits = length - "cat 103 ".len();
-        script.call(format!("cat 103 {:0digits$}", 16));
-    }
-    script.call(format!("rem {}", "5e".repeat(LONGEST_LINE / 2 - 2)));
-    script.call(format!("rem {}", "5e".repeat(LONGEST_LINE / 2 - 1)));
 }
 
 /// A right line with something amiss.
