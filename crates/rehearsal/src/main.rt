@@ -51,8 +51,8 @@ fn main() {
     lend(&mut line, &mut out);
 }
 
-// Lends the line and the answer their space, once for all. It comes as arrays, since that `main` had
-// slices of such lengths would be proved element by element, too many of them for the prover.
+// Lends the line and the answer their space, once for all. It comes as arrays: lent as slices by
+// `main`, their lengths would be counted up in its proof, and the answer's is too long for that.
 fn lend(line: &mut [u8; LONGEST], out: &mut [u8; LONGEST_ANSWER]) {
     run(line, out);
 }

@@ -1,7 +1,7 @@
 -- The definitions of settings said in other words, in figures.
 -- Assumes nothing.
 use mathlib.Core.Path.{_≡_, refl, ap, _∙_}
-use mathlib.Core.List.{List, [], _∷_}
+use mathlib.Core.List.{List, _∷_}
 use mathlib.Core.Logic.{_⊎_, inl, inr, ⊎-elim, _↔_}
 use Prim.Native.Nat.{ℕ, zero, suc, _+_, _*_, _/_, _≤_, _<_}
 use native.Mathlib.Decide.{decLe}
@@ -12,7 +12,7 @@ use Rattle.values.specs.Values.{sizeOf, natural}
 use Rattle.setting.specs.declared.Head.{Head}
 use Rattle.setting.specs.declared.Fault.{Fault}
 use Rattle.setting.specs.declared.Fault.the-variants.{ShortSheet, OtherVersion, WrongHeader, OutOfOrder, NotAllowed, WrongPlaces, NoSuchRecord, NoRoom, TooMany}
-use Rattle.setting.specs.Setting.{head, lengthOf, lengthsTo, Above, Allowed, Falls, Unfit, headOf, tailOf, rowsIn, heads, tails, faultNumber, Numbers}
+use Rattle.setting.specs.Setting.{mostElements, head, lengthOf, lengthsTo, Above, Allowed, Falls, Unfit, headOf, tailOf, rowsIn, heads, tails, faultNumber, Numbers}
 
 -- "by module, then register": as one number of two bytes
 pub above-plainly : (a b : Head) → a .register < 256 → b .register < 256 → Above a b ↔ (256 * a .unit + a .register < 256 * b .unit + b .register)
@@ -21,10 +21,6 @@ above-plainly a b p q = (
   ⊎-elim (λ l. omega arith) (λ s. omega (arith, s .0, s .1)),
   λ l. elim (decLe (b .unit) (a .unit)) [ yes h ↦ inr (omega arith, omega arith) | no h ↦ inl (omega arith) ],
 )
-
--- the most elements of each kind, from 0 on, which is none: at most 240 bytes of U8 and I8, U16 and I16, U32 and I32, U64
-abbrev pub mostElements : List ℕ
-mostElements = 0 ∷ 240 ∷ 240 ∷ 120 ∷ 120 ∷ 60 ∷ 60 ∷ 30 ∷ []
 
 most-elements : (kind count : ℕ) → 1 ≤ kind → kind ≤ 7 → (count * sizeOf kind ≤ 240) ↔ (count ≤ getD mostElements kind 0)
 unfolding sizeOf

@@ -46,6 +46,10 @@ Allowed h =
     ((1 ≤ h .unit) × (h .unit ≤ 160))
     × (((1 ≤ h .kind) × (h .kind ≤ 7)) × (((1 ≤ h .count) × (h .count ≤ 240)) × (lengthOf h ≤ 240)))
 
+-- the most elements of each kind, from 0 on, which is none: at most 240 bytes of U8 and I8, U16 and I16, U32 and I32, U64
+abbrev pub mostElements : List ℕ
+mostElements = 0 ∷ 240 ∷ 240 ∷ 120 ∷ 120 ∷ 60 ∷ 60 ∷ 30 ∷ []
+
 -- some place under n
 abbrev pub Some : (ℕ → Type 0) → ℕ → Type 0
 Some P n = (k : ℕ) × (k < n) × P k

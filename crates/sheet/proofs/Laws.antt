@@ -26,7 +26,8 @@ use Rattle.sheet.specs.declared.Checked.the-variants as checked
 use Rattle.sheet.specs.declared.Record.{Record}
 use Rattle.sheet.specs.declared.Reading.{Reading}
 use Rattle.sheet.specs.declared.Reading.the-variants as reading
-use Rattle.sheet.proofs.Right.{Whole, whole, check-ranked, sheet-of-held}
+use Rattle.sheet.specs.Promised.{Whole, Answered}
+use Rattle.sheet.proofs.Right.{whole, check-ranked, sheet-of-held}
 use Rattle.sheet.proofs.Written.{held-named, held-valued, value-sized, held-long, held-writable, sheet-right}
 
 -- ---- "Refusals for a reader, in order over the whole sheet": each number exactly when its row holds and no earlier one does
@@ -70,15 +71,6 @@ checked-right sheet n p = by (checkRefusal sheet) refl p
     by : (o : Option Fault) → checkRefusal sheet ≡ o → checked.Right n ≡ checkAnswer o (countIn sheet) → Right sheet × (n ≡ length (held sheet))
     by none e q = let m : n ≡ countIn sheet = cc in (done-exactly (checkRows sheet) (checkRefusal sheet) (check-ranked sheet) .0 e, m ∙ sym (held-long sheet))
     by (some f) e q = clash cc
-
--- "then answers one record, numbered from 0, with its value bytes in a lent buffer": the setting at that place
-pub record Answered (sheet : List ℕ) (index : ℕ) (room : List ℕ) (r : Record) (room′ : List ℕ) : Type 0 where
-  pub sheet-right : Right sheet
-  pub within : index < length (held sheet)
-  pub names : r .head ≡ named (held sheet) index
-  pub long : r .size ≡ length (valued (held sheet) index)
-  pub fits : length (valued (held sheet) index) ≤ length room
-  pub bytes : room′ ≡ valued (held sheet) index ++ drop (length (valued (held sheet) index)) room
 
 -- what it takes that nothing refuses
 pub read-none : (sheet : List ℕ) (index : ℕ) (room : List ℕ) → readRefusal sheet index room ≡ none

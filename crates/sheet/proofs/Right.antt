@@ -14,22 +14,16 @@ use Rattle.rows.proofs.Laws.{Decides, decides-lt, decides-eq, decides-not, deci
 use Rattle.values.specs.Values.{Bytes, natural, bytesOf}
 use Rattle.values.proofs.Bytes.{bytes-take, bytes-drop, bytesOf-natural}
 use Rattle.setting.specs.declared.Head.{Head}
-use Rattle.setting.specs.Setting.{lengthOf, lengthsTo, Above, Allowed, headOf, tailOf, rowsIn, heads, tails, settingsIn}
+use Rattle.setting.specs.Setting.{lengthOf, lengthsTo, headOf, tailOf, rowsIn, heads, tails, settingsIn}
 use Rattle.setting.proofs.Laws.{equal, decides-some, decides-falls, decides-unfit, all-rise, none-falls, all-allowed, none-unfit, heads-at, tails-at, rows-whole}
 use Rattle.setting.proofs.Lists.{headFrom, row-on, lengths-same, lengths-row, length-settings}
 use Rattle.sheet.specs.Sheet.{headerFor, recordFor, recordsFor, valuesFor, sheetOf, fieldAt, versionIn, countIn, recordsAt, valuesAt, recordsIn, valuesIn, held, IsShort, IsOther, IsWrongHeader, HasFall, HasUnfit, Misplaced, HasMisplaced, checkRows, Right, misplaced, isWrongHeader, isMisplaced, checkTests, checkRefusal}
+use Rattle.sheet.specs.Promised.{Headed, Whole}
 
 -- ---- the tests of a check decide its rows
 
 at-most : (a b : ℕ) → (b < a → ⊥) → a ≤ b
 at-most a b n = omega arith
-
--- what a right header says
-pub record Headed (sheet : List ℕ) : Type 0 where
-  pub few : countIn sheet ≤ 128
-  pub records : recordsAt sheet ≡ 12
-  pub values : valuesAt sheet ≡ 12 + 8 * countIn sheet
-  pub reaches : 12 + 8 * countIn sheet ≤ length sheet
 
 pub headed : (sheet : List ℕ) → (IsWrongHeader sheet → ⊥) → Headed sheet
 unfolding IsWrongHeader
@@ -88,15 +82,6 @@ check-ranked sheet =
     decides-ends sheet (headed sheet n₆₇) otherwise λ n₇₀. tt)
 
 -- ---- a right sheet, in facts
-
-pub record Whole (sheet : List ℕ) : Type 0 where
-  pub long : 12 ≤ length sheet
-  pub version : versionIn sheet ≡ 1
-  pub header : Headed sheet
-  pub rise : (k : ℕ) → suc k < countIn sheet → Above (heads (recordsIn sheet) k) (heads (recordsIn sheet) (suc k))
-  pub allowed : (k : ℕ) → k < countIn sheet → Allowed (heads (recordsIn sheet) k)
-  pub placed : (k : ℕ) → k < countIn sheet → tails (recordsIn sheet) k ≡ lengthsTo (heads (recordsIn sheet)) k
-  pub ends : length sheet ≡ 12 + 8 * countIn sheet + lengthsTo (heads (recordsIn sheet)) (countIn sheet)
 
 pub whole : (sheet : List ℕ) → Right sheet → Whole sheet
 unfolding checkRows IsShort IsOther HasFall HasUnfit HasMisplaced Misplaced

@@ -14,6 +14,7 @@ use Rattle.setting.specs.Setting.{Setting, setting, lengthOf, lengthsTo, headOf
 use Rattle.setting.proofs.Laws.{heads-at, tails-at, rows-whole}
 use Rattle.setting.proofs.Lists.{headFrom, row-on, lengths-on}
 use Rattle.sheet.specs.Sheet.{recordFor, recordsFor, valuesFor, named, valued}
+use Rattle.sheet.specs.Promised.{Sized}
 
 unfoldable pub rowsBy : (ℕ → ℕ) → List Setting → List ℕ
 rowsBy number [] = []
@@ -86,10 +87,6 @@ pub tails-by : (number : ℕ → ℕ) (settings : List Setting) (k : ℕ) → k 
 tails-by number settings k h small = tails-at (rowsBy number settings) k (rw (many-rows number settings) h) ∙ tails-from number settings k h small
 
 -- ---- the settings are read back
-
--- each value has the length that its head says
-abbrev pub Sized : List Setting → Type 0
-Sized settings = (k : ℕ) → k < length settings → length (valued settings k) ≡ lengthOf (named settings k)
 
 pub sized-on : (s : Setting) (rest : List Setting) → Sized (s ∷ rest) → Sized rest
 unfolding valued named

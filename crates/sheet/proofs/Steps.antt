@@ -28,7 +28,8 @@ use Rattle.sheet.specs.declared.Checked.{Checked}
 use Rattle.sheet.specs.declared.Checked.the-variants as checked
 use Rattle.sheet.specs.declared.Reading.{Reading}
 use Rattle.sheet.specs.declared.Reading.the-variants as reading
-use Rattle.sheet.proofs.Right.{Headed, headed, decides-header, Whole, whole, check-ranked, records-long, values-long}
+use Rattle.sheet.specs.Promised.{Headed, Whole}
+use Rattle.sheet.proofs.Right.{headed, decides-header, whole, check-ranked, records-long, values-long}
 use Rattle.sheet.proofs.Written.{value-long}
 
 -- a field as it is loaded

@@ -21,12 +21,14 @@ use Rattle.setting.specs.declared.Fault.{Fault}
 use Rattle.setting.specs.Setting.{Setting, lengthOf, lengthsTo, rowsIn, heads, tails, faultNumber, Some, Falls, Unfit, someOf, Numbers}
 use Rattle.setting.proofs.Laws.{decides-some, equal, all-rise, none-falls, all-allowed, none-unfit, length-allowed, heads-at}
 use Rattle.setting.proofs.Lists.{headFrom, lengths-same, lengths-next, lengths-mono, setting-at}
-use Rattle.sheet.specs.Sheet.{recordFor, valuesFor, sheetOf, named, valued, nothing, Writable, Right, held, roomAfter}
-use Rattle.sheet.proofs.Rowed.{rowsBy, Sized, length-rows, many-rows, heads-by, tails-by, settings-back}
+use Rattle.sheet.specs.Sheet.{recordFor, valuesFor, sheetOf, named, valued, nothing, Writable, roomAfter}
+use Rattle.sheet.specs.Promised.{Sized}
+use Rattle.sheet.proofs.Rowed.{rowsBy, length-rows, many-rows, heads-by, tails-by, settings-back}
 use Rattle.sheet.proofs.Written.{length-values, sheet-right, held-of-sheet, sheet-most}
 use Rattle.sheet_writer.specs.Writer.{rowsFor, handed, AreMany, HaveFall, Misstated, HaveWrongLength, HaveUnfit, IsNarrow, writeRows, writeRefusal, writeAnswer, writeTold, Writes}
 use Rattle.sheet_writer.specs.declared.Writing.{Writing}
 use Rattle.sheet_writer.specs.declared.Writing.the-variants as writing
+use Rattle.sheet_writer.specs.Promised.{Written}
 use Rattle.sheet_writer.proofs.Handed.{Stated, stated, handed-exactly, write-ranked, many-handed}
 
 -- ---- "For a writer: 79 over 128 settings, 68, 69 .., 57": each exactly when its row holds and no earlier one does
@@ -84,15 +86,6 @@ writable rows values room n =
 
     omega-few : (128 < rowsIn rows → ⊥) → rowsIn rows ≤ 128
     omega-few n = omega arith
-
-pub record Written (rows values room : List ℕ) (size : ℕ) (room′ : List ℕ) : Type 0 where
-  pub can : Writable (handed rows values)
-  pub long : size ≡ length (sheetOf (handed rows values))
-  pub most : size ≤ 31756
-  pub fits : size ≤ length room
-  pub bytes : room′ ≡ sheetOf (handed rows values) ++ drop size room
-  pub is-right : Right (take size room′)
-  pub holds : held (take size room′) ≡ handed rows values
 
 no-rows : (rows values room : List ℕ) → writeRefusal rows values room ≡ none → NoRow (writeRows rows values room)
 no-rows rows values room e = done-exactly (writeRows rows values room) (writeRefusal rows values room) (write-ranked rows values room) .0 e

@@ -1,6 +1,6 @@
 // The words of a call line: parted by one blank, numbers in decimal, bytes in lower-case hex with
-// `-` for none. The parts of a word that is a list are taken in the same way, parted by another byte.
-// A part of the test tool `rehearsal`, and of test programs whose calls are lines.
+// `-` for none. The parts of a word that is a list are taken in the same way, with another byte
+// between them. A part of the test tool `rehearsal`, and of test programs whose calls are lines.
 ghost use Rattle.io.specs.Counts.{Counts};
 ghost use mathlib.Core.Path.{_≡_};
 ghost use mathlib.Core.Bool.{true};
@@ -10,12 +10,12 @@ ghost use lib.ListN.{length};
 // The most bytes that a word of a line can hold: a line has at most 65536 characters.
 pub const MOST: usize = 32768;
 
-// How many bytes a word holds that does not hold bytes; no word holds so many.
+// In place of how many bytes a word holds, where it does not hold bytes: no word holds so many.
 const NO_BYTES: u64 = 18446744073709551615;
 
 // How far a line was read. `at` is where the next word starts, one past the line's end once its
-// last word was taken; `good` turns false for good when a word is missing or does not parse. The
-// rest is what the last word was, its place, or its number and sign, and what stands between words.
+// last word was taken; `good` turns false for good when a word is missing or does not parse. Then
+// what the last word was: its place, or its number and sign. `between` is the byte between words.
 pub struct Words {
     pub at: usize,
     pub good: bool,
@@ -240,8 +240,8 @@ fn fits(value: u64, d: u64, most: u64) -> bool
     value <= (most - d) / 10
 }
 
-// The bytes that pairs of hex digits stand for, into the room's first places; how many, or `NO_BYTES`
-// where it is no such text or there is no room.
+// The bytes that pairs of hex digits stand for, into the room's first places; how many, or
+// `NO_BYTES` where it is no such text or there is no room.
 fn unhex(line: &[u8], from: usize, to: usize, room: &mut [u8]) -> u64 {
     if line.len() < to {
         return NO_BYTES;
