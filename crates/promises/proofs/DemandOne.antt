@@ -30,6 +30,7 @@ pub use Rattle.catalogue.proofs.Laws.{finds-settled}
 pub use Rattle.bench.proofs.Laws.{makes-settled, adds-settled, sets-settled, takes-settled}
 pub use Rattle.request.proofs.Laws.{asks-settled}
 pub use Rattle.desk.proofs.Laws.{opens-settled, replies-settled, cancels-settled, expires-settled}
+pub use Rattle.overdue.proofs.Laws.{expires-all-settled}
 pub use Rattle.receiver.proofs.Laws.{steps-settled}
 pub use Rattle.lister.proofs.Laws.{lists-settled}
 pub use Rattle.varia.proofs.Laws.{sets-settled as edge-sets-settled, attenuates-settled, reads-monitor-settled, reads-status-settled, displays-settled}

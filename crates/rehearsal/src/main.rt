@@ -8,6 +8,8 @@ use libc::STDERR_FILENO;
 use libc::STDIN_FILENO;
 use libc::STDOUT_FILENO;
 use lister::Listing;
+use overdue_calls::ENTRIES;
+use overdue_calls::UNUSED;
 use varia::FilterBox;
 use varia_calls::Rig;
 use words::Words;
@@ -202,6 +204,9 @@ fn answer_to(line: &[u8], gathered: Gathered, out: &mut [u8]) -> Said {
 // receiver, and those that keep nothing.
 fn answer(made: Made, line: &[u8], out: &mut [u8]) -> Said {
     let w = words::word(words::start(), line);
+    if words::is(w, line, b"desk.expall") {
+        return answer_all(made, w, line, out);
+    }
     if words::starts(w, line, b"desk.") {
         return answer_desk(made, w, line, out);
     }
@@ -233,6 +238,22 @@ fn answer_desk(made: Made, w: Words, line: &[u8], out: &mut [u8]) -> Said {
     Said {
         made: next,
         at: told.at,
+    }
+}
+
+// Everything due expires. The filter box is told of each closing.
+fn answer_all(made: Made, w: Words, line: &[u8], out: &mut [u8]) -> Said {
+    let mut closed = [UNUSED; 2 * ENTRIES];
+    let before = made.desk;
+    let swept = overdue_calls::answer(before, w, line, &mut closed, out);
+    let after = swept.desk;
+    let filters = varia_calls::told_all(made.filters, &closed);
+    let mut next = made;
+    next.desk = after;
+    next.filters = filters;
+    Said {
+        made: next,
+        at: swept.at,
     }
 }
 

@@ -25,6 +25,7 @@ const ODD: Ticket = Ticket {
 
 fn main() {
     desks();
+    halves();
     no_kind();
     twice();
 }
@@ -69,6 +70,41 @@ fn desks() {
         b"desk.open 1 15 4 48 - 1 0 1006 eeeeeeeeeeeeeeeeeeeeeeee",
     );
     dump(d);
+}
+
+// All 95 tickets are due at once, and the list has no room, half an entry, one and a half, and two
+// and a half: the last half stays.
+fn halves() {
+    let due = Desk {
+        turn: 0,
+        tickets: [ODD; 95],
+    };
+    sweep(due, 0);
+    sweep(due, 1);
+    sweep(due, 3);
+    sweep(due, 5);
+}
+
+// Expires what is due, with the first so many of five numbers as its list, and writes them all.
+fn sweep(desk: Desk, numbers: usize) {
+    let mut out = [0u8; 256];
+    let mut list = [7u32; 5];
+    let n = numbers % 6;
+    let swept = overdue::expire_all(desk, 0, &mut list[0..n]);
+    let told = [
+        swept.count as u64,
+        wide(list[0]),
+        wide(list[1]),
+        wide(list[2]),
+        wide(list[3]),
+        wide(list[4]),
+    ];
+    let at = answers::form(&mut out, b"n=# list=#,#,#,#,#", &told);
+    say(&mut out, at);
+}
+
+fn wide(number: u32) -> u64 {
+    number as u64
 }
 
 // A count of 99, and 32 times a register of kind 0, which has no bytes. All 32 are held, the first of
