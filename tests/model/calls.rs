@@ -15,6 +15,8 @@ use crate::varia::{self, Closing, Edge, Out, Shown, Varia, Wish};
 pub const LONGEST_LINE: usize = 65536;
 /// The most settings that a line may name, more than a sheet holds.
 pub const MOST_NAMED: usize = 200;
+/// The most entries of a list of expired tickets, more than there are tickets.
+pub const MOST_ENTRIES: usize = 200;
 const LEAST_VALUE: i128 = -9223372036854775808;
 const GREATEST_VALUE: i128 = 18446744073709551615;
 
@@ -33,6 +35,7 @@ enum Call {
     DeskReply { frame: Vec<u8>, buf: Vec<u8> },
     DeskCancel { job: u32, address: u8, clock: u32 },
     DeskExpire { clock: u32 },
+    DeskExpall { clock: u32, room: usize },
     DeskDump,
     VariaNew { job: u32, module: u8 },
     OnVaria(VariaCall),
@@ -92,6 +95,12 @@ impl<'a> Words<'a> {
     /// The next word as a 64-bit number: an element's or a record's, or a place.
     fn long_number(&mut self) -> Option<u64> {
         u64::try_from(decimal(self.word()?)?).ok()
+    }
+
+    /// The next word as the room of a list, at most 200 entries.
+    fn room(&mut self) -> Option<usize> {
+        let room = usize::try_from(decimal(self.word()?)?).ok()?;
+        (room <= MOST_ENTRIES).then_some(room)
     }
 
     /// The next word as a value, -2^63 to 2^64-1.
@@ -180,6 +189,7 @@ fn parse_call(name: &[u8], words: &mut Words) -> Option<Call> {
         b"desk.reply" => Call::DeskReply { frame: words.bytes()?, buf: words.bytes()? },
         b"desk.cancel" => Call::DeskCancel { job: words.number()?, address: words.byte()?, clock: words.number()? },
         b"desk.expire" => Call::DeskExpire { clock: words.number()? },
+        b"desk.expall" => Call::DeskExpall { clock: words.number()?, room: words.room()? },
         b"desk.dump" => Call::DeskDump,
         b"varia.new" => Call::VariaNew { job: words.number()?, module: words.byte()? },
         b"varia.short" => parse_wish(Wish::Set(Edge::Short, words.short_number()?), words)?,
@@ -241,6 +251,7 @@ fn parse_setting(named: &[u8]) -> Option<Setting> {
 }
 
 /// What the calls work on: the desk, the box and the bench once there is one, and the receiver.
+#[derive(Clone)]
 pub struct Rehearsal {
     pub desk: Desk,
     pub varia: Option<Varia>,
@@ -285,6 +296,7 @@ impl Rehearsal {
             Call::DeskReply { frame, buf } => lent(buf, |room| self.reply(&frame, room).map(reply_fields)),
             Call::DeskCancel { job, address, clock } => plain(self.cancel(job, address, clock).map(closed_fields)),
             Call::DeskExpire { clock } => plain(self.expire(clock).map(closed_fields)),
+            Call::DeskExpall { clock, room } => ok(expired_fields(&self.expire_all(clock, room), room)),
             Call::DeskDump => ok(desk_fields(&self.desk)),
             Call::VariaNew { job, module } => ok(self.new_varia(job, module)),
             Call::OnVaria(call) => match &mut self.varia {
@@ -347,6 +359,13 @@ impl Rehearsal {
         let (job, address) = self.desk.expire(clock)?;
         self.tell(address, Closing::Lost);
         Ok((job, address))
+    }
+
+    /// Lets everything due expire at the desk, as far as the list has room, and tells the box of each.
+    fn expire_all(&mut self, clock: u32, room: usize) -> Vec<(u32, u8)> {
+        let expired = self.desk.expire_all(clock, room);
+        expired.iter().for_each(|(_, address)| self.tell(*address, Closing::Lost));
+        expired
     }
 
     /// A fresh receiver takes the place of the one there was; no fields are answered.
@@ -451,6 +470,13 @@ fn reply_fields((job, reply): (u32, Message)) -> (String, Vec<u8>) {
 /// The fields of a ticket that was cancelled or expired.
 fn closed_fields((job, address): (u32, u8)) -> String {
     format!("job={job} address={address}")
+}
+
+/// How many tickets expired, and the list of so many entries after it: theirs, then `.` for each entry that stayed.
+fn expired_fields(expired: &[(u32, u8)], room: usize) -> String {
+    let mut entries: Vec<String> = expired.iter().map(|(job, address)| format!("{job}:{address}")).collect();
+    entries.resize(room, ".".to_string());
+    format!("n={} list={}", expired.len(), list(entries))
 }
 
 /// The bench's address and its registers, by rising register.

@@ -1,6 +1,7 @@
 //! How often each call was answered in each way, and whether every way occurred.
 
 use crate::calls::lines;
+use crate::dues::Dues;
 use crate::filters::Filters;
 use crate::places::Places;
 use crate::rests::Rests;
@@ -9,7 +10,7 @@ use crate::telegram::No;
 use std::collections::BTreeMap;
 
 /// Each call with the numbers its order lists.
-const ORDERS: [(&str, &[No]); 32] = [
+const ORDERS: [(&str, &[No]); 33] = [
     ("rem", &[]),
     ("read", &[1, 2, 3, 4, 5, 6, 7, 8, 9]),
     ("write", &[5, 8, 9, 6]),
@@ -26,6 +27,7 @@ const ORDERS: [(&str, &[No]); 32] = [
     ("desk.reply", &[1, 2, 3, 4, 5, 6, 7, 8, 9, 61, 17, 18, 19, 20]),
     ("desk.cancel", &[21]),
     ("desk.expire", &[22]),
+    ("desk.expall", &[]),
     ("desk.dump", &[]),
     ("varia.new", &[]),
     ("varia.short", &[59, 63, 10, 11, 14, 15, 16]),
@@ -104,12 +106,14 @@ pub fn count(script: &[u8], answers: &[u8]) -> (String, bool) {
     complaints.extend(places.missing());
     let sheets = Sheets::of(&calls, &answers);
     complaints.extend(sheets.missing());
+    let dues = Dues::of(&calls, &answers);
+    complaints.extend(dues.missing());
     if calls.len() != answers.len() {
         complaints.push(format!("{} calls but {} answers", calls.len(), answers.len()));
     }
     let told: String = complaints.iter().map(|line| format!("{line}\n")).collect();
-    let met = borders_line(over_borders) + &rests.lines() + &filters.lines() + &places.lines() + &sheets.lines();
-    (table(&counts) + &met + &told, complaints.is_empty())
+    let of_subjects = [rests.lines(), filters.lines(), places.lines(), sheets.lines(), dues.lines()];
+    (table(&counts) + &borders_line(over_borders) + &of_subjects.concat() + &told, complaints.is_empty())
 }
 
 /// What calls and answers tell of the chunks: the place of the next byte, where the latest chunk of any bytes began,

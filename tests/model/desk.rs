@@ -172,4 +172,14 @@ impl Desk {
         self.close(address, clock);
         Ok((job, address))
     }
+
+    /// Closes all due tickets, or the first of them by address where a list of so many entries has no room for all, and
+    /// answers job and address of each by rising address; they all rest from the call's clock on. The papers tell it by
+    /// single expiries, which `expiries` holds this against.
+    pub fn expire_all(&mut self, clock: u32, room: usize) -> Vec<(u32, u8)> {
+        let due = self.tickets.iter().filter(|(_, ticket)| ticket.is_due(clock));
+        let expired: Vec<(u32, u8)> = due.take(room).map(|(address, ticket)| (ticket.job, *address)).collect();
+        expired.iter().for_each(|(_, address)| self.close(*address, clock));
+        expired
+    }
 }

@@ -2,10 +2,11 @@
 //! what went on while one was out, and what the display and the status were said to show.
 
 use crate::desk::age;
+use crate::dues::expired;
 use std::collections::{BTreeMap, BTreeSet};
 
 /// What must have been met of either edge: each end of its request, with the edge unknown before and known.
-const ENDS: [&str; 12] = [
+const ENDS: [&str; 14] = [
     "ack unknown",
     "ack known",
     "nack unknown",
@@ -18,6 +19,8 @@ const ENDS: [&str; 12] = [
     "cancel known",
     "expiry unknown",
     "expiry known",
+    "expall unknown",
+    "expall known",
 ];
 /// What must have been met of an edge that was asked for, by how it lies to the other one; the last two are values that
 /// are in order with nothing, and given since the other one is unknown.
@@ -31,22 +34,33 @@ const EDGES: [&str; 8] = [
     "short 0",
     "long 65535",
 ];
-/// What must have been met, under ten heads.
-const WANTED: [(&str, &[&str]); 10] = [
+/// What must have been met of an edge request at a call that expires everything due.
+const EXPALL: [&str; 5] = ["alone", "with others", "left for want of room", "not due", "none out"];
+/// What must have been met, under eleven heads.
+const WANTED: [(&str, &[&str]); 11] = [
     ("short", &ENDS),
     ("long", &ENDS),
     ("edges", &EDGES),
     ("59", &["same edge", "other edge", "63 too", "due"]),
     ("attenuation", &["0", "1000", "1001", "65535"]),
     ("meanwhile", &MEANWHILE),
-    ("anew", &["while out", "old request booked", "old request cancelled", "old request expired"]),
+    ("expall", &EXPALL),
+    ("anew", &ANEW),
     ("display", &["fresh", "kept", "fresh of two", "64 with one", "64 with three"]),
     ("moving", &["0", "1", "bit 11", "bit 12", "bit 13", "bit 14", "bit 15"]),
     ("dump", &["short known", "short unknown", "long known", "long unknown", "out short", "out long", "none out"]),
 ];
+/// What must have been met of boxes made anew while an edge request was out: how that one ended afterwards.
+const ANEW: [&str; 5] = [
+    "while out",
+    "old request booked",
+    "old request cancelled",
+    "old request expired",
+    "old request expired by expall",
+];
 /// What must have been met while an edge request was out: other openings, the ends of other tickets, and replies on its
 /// own address that are refused; and a reply that comes once it was cancelled or expired.
-const MEANWHILE: [&str; 12] = [
+const MEANWHILE: [&str; 13] = [
     "attenuation",
     "monitor",
     "status",
@@ -54,6 +68,7 @@ const MEANWHILE: [&str; 12] = [
     "another booked",
     "another cancelled",
     "another expired",
+    "another expired by expall",
     "18",
     "19",
     "20",
@@ -141,12 +156,13 @@ impl Filters {
             ["desk.open", ..] => self.opened("another opened", answer),
             ["desk.reply", frame, _] => self.replied(frame, answer),
             ["desk.cancel", _, address, _] => {
-                self.ended("cancel", "another cancelled", "old request cancelled", answer);
+                self.ended_by("cancel", "another cancelled", "old request cancelled", answer);
                 if self.is_out_on(parsed(address) as u8) && answer == "no 21" {
                     self.count("meanwhile", "21");
                 }
             }
-            ["desk.expire", _] => self.ended("expiry", "another expired", "old request expired", answer),
+            ["desk.expire", _] => self.ended_by("expiry", "another expired", "old request expired", answer),
+            ["desk.expall", clock, _] => self.all_expired(parsed(clock), &expired(answer)),
             ["varia.display", fresh, kept] => self.shown(fresh, kept, answer),
             ["varia.moving", status] => self.moving(parsed(status) as u16, answer),
             ["varia.dump"] => self.dumped(answer),
@@ -242,7 +258,7 @@ impl Filters {
             Some(2) => "busy",
             _ => "ack",
         };
-        self.ended(end, "another booked", "old request booked", answer);
+        self.ended_by(end, "another booked", "old request booked", answer);
         let dest = frame.get(2..4).and_then(|digits| u8::from_str_radix(digits, 16).ok()).unwrap_or(0);
         let number = answer.split(' ').nth(1).unwrap_or("");
         if self.is_out_on(dest) {
@@ -253,12 +269,32 @@ impl Filters {
         }
     }
 
-    /// A ticket was closed: the edge request's, that of a box before this one, or another's.
-    fn ended(&mut self, end: &str, another: &str, old: &str, answer: &str) {
-        let address = match field(answer, "address=") {
-            Some(address) => address,
-            None => return,
+    /// A ticket was closed where the answer has its address.
+    fn ended_by(&mut self, end: &str, another: &str, old: &str, answer: &str) {
+        if let Some(address) = field(answer, "address=") {
+            self.ended(end, another, old, address);
+        }
+    }
+
+    /// The tickets on these addresses expired by one call: with the edge request among them, or not.
+    fn all_expired(&mut self, clock: u32, expired: &[u8]) {
+        let thing = match self.out {
+            Some(out) if expired == [out.address] => "alone",
+            Some(out) if expired.contains(&out.address) => "with others",
+            Some(out) if age(clock, out.opened) >= out.wait => "left for want of room",
+            Some(_) => "not due",
+            None => "none out",
         };
+        if !expired.is_empty() {
+            self.count("expall", thing);
+        }
+        for address in expired {
+            self.ended("expall", "another expired by expall", "old request expired by expall", *address);
+        }
+    }
+
+    /// A ticket was closed: the edge request's, that of a box before this one, or another's.
+    fn ended(&mut self, end: &str, another: &str, old: &str, address: u8) {
         match self.out.filter(|out| out.address == address) {
             Some(out) => self.edge_ended(out, end),
             None if self.old.remove(&address) => self.count("anew", old),
@@ -274,7 +310,7 @@ impl Filters {
         self.count(["short", "long"][out.edge], &format!("{end} {before}"));
         match end {
             "ack" => self.known[out.edge] = Some(out.value),
-            "cancel" | "expiry" => {
+            "cancel" | "expiry" | "expall" => {
                 self.known[out.edge] = None;
                 self.lost.insert(out.address);
             }

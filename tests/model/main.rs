@@ -8,6 +8,8 @@ mod chunks;
 mod count;
 mod cuts;
 mod desk;
+mod dues;
+mod expiries;
 mod faults;
 mod filters;
 mod listing;
@@ -28,7 +30,7 @@ use std::io::{self, Read, Write};
 use std::process::ExitCode;
 
 const USAGE: &str = "usage: model answer | script SEED CALLS | count SCRIPT ANSWERS | cuts | list | capture SEED | \
-chunks SEED CAPTURES | vectors";
+chunks SEED CAPTURES | expiries SEED DESKS | vectors";
 
 /// 0 when all is well, 1 when a check fails, 2 when the command can't be carried out.
 fn main() -> ExitCode {
@@ -59,6 +61,10 @@ fn run(words: &[&str]) -> io::Result<bool> {
             let (report, no_difference) = chunks::report(number(seed)?, number(captures)?);
             put(report, no_difference)
         }
+        ["expiries", seed, desks] => {
+            let (report, no_difference) = expiries::report(number(seed)?, number(desks)?);
+            put(report, no_difference)
+        }
         ["vectors"] => {
             let (report, all_hold) = vectors::report();
             put(report, all_hold)
@@ -80,7 +86,7 @@ fn put(bytes: impl AsRef<[u8]>, verdict: bool) -> io::Result<bool> {
     Ok(verdict)
 }
 
-/// A seed, or a number of calls or captures.
+/// A seed, or a number of calls, captures or desks.
 fn number(word: &str) -> io::Result<u64> {
     word.parse().map_err(|_| io::Error::new(io::ErrorKind::Other, USAGE))
 }

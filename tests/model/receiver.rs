@@ -5,13 +5,13 @@ use crate::telegram::{lowest, No, END, LONGEST_TELEGRAM, START};
 
 /// A frame that a 13 at this place opened, and its bytes so far. Of a runaway only the first 494 are kept; it is known
 /// by having so many without an end.
-#[derive(PartialEq, Eq)]
+#[derive(Clone, PartialEq, Eq)]
 struct Frame {
     place: u64,
     kept: Vec<u8>,
 }
 
-#[derive(PartialEq, Eq)]
+#[derive(Clone, PartialEq, Eq)]
 pub struct Receiver {
     /// The place of the next byte.
     pub place: u64,

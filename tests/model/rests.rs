@@ -2,9 +2,11 @@
 //! that matters, and how late answers were refused.
 
 use crate::desk::{age, FIRST_HOST, LAST_HOST, REST};
+use crate::dues::expired;
 use std::collections::{BTreeMap, BTreeSet};
 
-/// What must have been met after a cancel, and likewise after an expiry. "Kept" is passed over, or not given and 15.
+/// What must have been met after a cancel, and likewise after an expiry, alone or with others by one call. "Kept" is
+/// passed over, or not given and 15.
 const AFTER_CLOSING: [&str; 7] = [
     "kept at 998",
     "kept at 999",
@@ -14,10 +16,11 @@ const AFTER_CLOSING: [&str; 7] = [
     "61 within the rest",
     "61 after it",
 ];
-/// What must have been met, under five heads.
-const WANTED: [(&str, &[&str]); 5] = [
+/// What must have been met, under six heads.
+const WANTED: [(&str, &[&str]); 6] = [
     ("cancelled", &AFTER_CLOSING),
     ("expired", &AFTER_CLOSING),
+    ("expired by expall", &AFTER_CLOSING),
     ("resting", &["passed over", "kept over the wrap", "booked after a rest"]),
     ("15", &["all open", "all resting", "open and resting"]),
     ("17", &["below 161", "never given", "after a booking", "where 61 was told"]),
@@ -91,7 +94,9 @@ impl Rests {
         let is_told = |number| answer.starts_with(&format!("no {number} "));
         match words[..] {
             [name, .., clock, _] if opens(name) => self.clock = parsed(clock),
-            ["desk.cancel", _, _, clock] | ["desk.expire", clock] => self.clock = parsed(clock),
+            ["desk.cancel", _, _, clock] | ["desk.expire", clock] | ["desk.expall", clock, _] => {
+                self.clock = parsed(clock)
+            }
             _ => (),
         }
         match (&words[..], address) {
@@ -100,6 +105,9 @@ impl Rests {
             ([name, ..], None) if opens(name) && is_told(15) => self.all_taken(),
             (["desk.cancel", ..], Some(address)) => self.closed("cancelled", address),
             (["desk.expire", ..], Some(address)) => self.closed("expired", address),
+            (["desk.expall", ..], _) => {
+                expired(answer).into_iter().for_each(|address| self.closed("expired by expall", address))
+            }
             (["desk.reply", ..], Some(address)) => self.booked(address),
             (["desk.reply", frame, _], None) if is_told(61) => self.told_61(destination(frame)),
             (["desk.reply", frame, _], None) if is_told(17) => self.told_17(destination(frame)),
@@ -201,17 +209,17 @@ impl Rests {
 }
 
 /// Whether a call of this name opens a ticket: the desk's own, or one of the box's.
-fn opens(name: &str) -> bool {
+pub fn opens(name: &str) -> bool {
     ["desk.open", "varia.short", "varia.long", "varia.att", "varia.monitor", "varia.status"].contains(&name)
 }
 
 /// The number after this name in an answer.
-fn field(answer: &str, name: &str) -> Option<u8> {
+pub fn field(answer: &str, name: &str) -> Option<u8> {
     answer.split(' ').find_map(|word| word.strip_prefix(name)?.parse().ok())
 }
 
 /// A clock reading of a call that was answered.
-fn parsed(clock: &str) -> u32 {
+pub fn parsed(clock: &str) -> u32 {
     clock.parse().unwrap_or(0)
 }
 

@@ -2,6 +2,7 @@
 
 mod bench_walk;
 mod desk_walk;
+mod expall_walk;
 mod numbers;
 mod receiver_walk;
 mod rest_walk;
@@ -96,10 +97,29 @@ const SHEET_ROUND: [Section; 10] = [
     sheet_walk::several_faults,
 ];
 
+/// The sections on the call that expires everything due, after those on settings sheets, with a generator of their own
+/// as well.
+const EXPALL_ROUND: [Section; 6] = [
+    rough::expall_lines,
+    expall_walk::all_due,
+    expall_walk::some_due,
+    expall_walk::resting,
+    expall_walk::boxes,
+    expall_walk::mixed,
+];
+
+/// A rehearsal with a desk of any sort, to try the call on that expires everything due.
+pub fn crowded(seed: u64) -> Rehearsal {
+    let mut script = Script::new(seed);
+    expall_walk::crowd(&mut script);
+    script.rehearsal
+}
+
 /// The script of a seed, of so many lines, each ended by one newline.
 pub fn write(seed: u64, calls: usize) -> Vec<u8> {
-    let mut script = Script { random: Random::new(seed), rehearsal: Rehearsal::new(), lines: Vec::new() };
+    let mut script = Script::new(seed);
     bench_walk::no_bench_yet(&mut script);
+    expall_walk::no_desk_yet(&mut script);
     desk_walk::no_desk_yet(&mut script);
     receiver_walk::no_receiver_yet(&mut script);
     varia_walk::no_box_yet(&mut script);
@@ -109,18 +129,25 @@ pub fn write(seed: u64, calls: usize) -> Vec<u8> {
     let mut varia_random = Random::new(seed.rotate_left(32) ^ 0x5641_5249_4100);
     let mut place_random = Random::new(!seed.rotate_left(32) ^ 0x504C_4143_4500);
     let mut sheet_random = Random::new(seed.rotate_left(16) ^ 0x5348_4545_5400);
+    let mut expall_random = Random::new(seed.rotate_left(48) ^ 0x4558_5041_4C4C);
     while script.lines.len() < calls {
         script.round(ROUND);
         script.round_with(&mut receiver_random, RECEIVER_ROUND);
         script.round_with(&mut varia_random, VARIA_ROUND);
         script.round_with(&mut place_random, PLACE_ROUND);
         script.round_with(&mut sheet_random, SHEET_ROUND);
+        script.round_with(&mut expall_random, EXPALL_ROUND);
     }
     script.lines.truncate(calls);
     script.lines.iter().flat_map(|line| [line.as_slice(), b"\n"].concat()).collect()
 }
 
 impl Script {
+    /// A script of no lines, whose generator starts from this seed.
+    fn new(seed: u64) -> Script {
+        Script { random: Random::new(seed), rehearsal: Rehearsal::new(), lines: Vec::new() }
+    }
+
     /// Adds these sections in a random order.
     fn round<const N: usize>(&mut self, mut sections: [Section; N]) {
         self.random.shuffle(&mut sections);

@@ -71,6 +71,15 @@ no 3 place=5 buf=0000
 ok job=7 address=161
 ";
 
+/// The line of the same example that expires everything due, after those about rests; entries have no folder yet.
+const DUE_CALLS: &str = "\
+desk.expall 100 3
+";
+
+const DUE_ANSWERS: &str = "\
+ok n=1 list=8:162,.,.
+";
+
 /// The part of the same example that is about the filter box, after that about rests.
 const BOX_CALLS: &str = "\
 varia.new 9 16
@@ -140,6 +149,8 @@ pub fn report() -> (String, bool) {
         manual_examples(),
         both_sides(),
         rests(),
+        dues(),
+        rests_of_dues(),
         filter_boxes(),
         filter_edges(),
         listings(),
@@ -294,6 +305,66 @@ fn rests() -> Vec<Check> {
     ]
 }
 
+/// Everything due at once: the call scripts' example, rooms around all 95, the rest at a second call, both sides of a
+/// waiting time, and what is not due.
+fn dues() -> Vec<Check> {
+    let open = |wait: u32, clock: u32| format!("desk.open 1 15 4 102 - {wait} 0 {clock} {}\n", "a1".repeat(20));
+    let entries = |first: u8, last: u8, stayed: usize| {
+        let expired = (first..=last).map(|address| format!("1:{address}"));
+        expired.chain(vec![".".to_string(); stayed]).collect::<Vec<String>>().join(",")
+    };
+    let last = |name, before: &str, call: &str, want: String| {
+        let said = answers([before, call].concat().as_bytes());
+        Check { name, got: said.lines().last().unwrap_or("").to_string(), want: format!("ok n={want}") }
+    };
+    let full = open(100, 0).repeat(95);
+    let over_the_wrap = open(100, 4294967290);
+    let three = [open(100, 0), open(101, 0), open(100, 0)].concat();
+    vec![
+        calls(
+            "the call scripts' example of expiring everything",
+            &[LATE_CALLS, DUE_CALLS, BOX_CALLS].concat(),
+            &[LATE_ANSWERS, DUE_ANSWERS, BOX_ANSWERS].concat(),
+        ),
+        calls("no entries", "desk.expall 0 0", "ok n=0 list=-"),
+        calls("nothing due", "desk.expall 0 3", "ok n=0 list=.,.,."),
+        last("200 entries", "", "desk.expall 0 200", format!("0 list={}.", ".,".repeat(199))),
+        calls("201 entries are no call", "desk.expall 0 201", "bad line"),
+        last("95 due, no room", &full, "desk.expall 100 0", "0 list=-".to_string()),
+        last("95 due, one entry", &full, "desk.expall 100 1", "1 list=1:161".to_string()),
+        last("95 due, 94 entries", &full, "desk.expall 100 94", format!("94 list={}", entries(161, 254, 0))),
+        last("95 due, 95 entries", &full, "desk.expall 100 95", format!("95 list={}", entries(161, 255, 0))),
+        last("95 due, 96 entries", &full, "desk.expall 100 96", format!("95 list={}", entries(161, 255, 1))),
+        last("one ms before", &full, "desk.expall 99 2", "0 list=.,.".to_string()),
+        last("the rest", &full, "desk.expall 100 93\ndesk.expall 100 3", "2 list=1:254,1:255,.".to_string()),
+        last("nothing is left", &full, "desk.expall 100 95\ndesk.expall 100 1", "0 list=.".to_string()),
+        last("what is not due stays", &three, "desk.expall 100 3", "2 list=1:161,1:163,.".to_string()),
+        last("T11 by one call, not due", &over_the_wrap, "desk.expall 93 1", "0 list=.".to_string()),
+        last("T11 by one call, due", &over_the_wrap, "desk.expall 94 1", "1 list=1:161".to_string()),
+        last("a clock set back by one", &open(60000, 1000), "desk.expall 999 1", "1 list=1:161".to_string()),
+    ]
+}
+
+/// What comes after all 95 have expired by one call, or 94 of them.
+fn rests_of_dues() -> Vec<Check> {
+    let open = |clock: u32| format!("desk.open 1 15 4 102 - 100 0 {clock} {}\n", "a1".repeat(20));
+    let last = |name, room: usize, then: &str, want: &str| {
+        let said = answers(format!("{}desk.expall 100 {room}\n{then}", open(0).repeat(95)).as_bytes());
+        let got = said.lines().last().unwrap_or("").chars().take(want.len()).collect();
+        Check { name, got, want: want.to_string() }
+    };
+    vec![
+        last("no address at once", 95, &open(100), "no 15 "),
+        last("999 ms after it", 95, &open(1099), "no 15 "),
+        last("1000 ms after it", 95, &open(1100), "ok address=161 "),
+        last("one ms before it", 95, &open(99), "ok address=161 "),
+        last("a late answer to it", 95, "desk.reply 0da10f08663412965b0a 0000", "no 61 buf=0000"),
+        last("no expiry after 95", 95, "desk.expire 100", "no 22"),
+        last("an expiry after 94", 94, "desk.expire 100", "ok job=1 address=255"),
+        last("no turn is moved", 94, "desk.dump", "ok turn=161 tickets=255:1:15:4:102:100:0 closed=161:100,162:100,"),
+    ]
+}
+
 /// The box's part of the call scripts' example, its limits on both sides, and what needs a box.
 fn filter_boxes() -> Vec<Check> {
     let on_a_box =
@@ -347,6 +418,9 @@ fn filter_edges() -> Vec<Check> {
         dumped("busy", &reply(162, 2, 51), "ok short=6000 long=? out=-"),
         dumped("a cancel", "desk.cancel 9 162 300\n", "ok short=? long=? out=-"),
         dumped("an expiry", "desk.expire 700\n", "ok short=? long=? out=-"),
+        dumped("an expiry of everything due", "desk.expall 700 95\n", "ok short=? long=? out=-"),
+        dumped("no room for an expiry", "desk.expall 700 0\n", "ok short=6000 long=? out=162:short:7000"),
+        dumped("an expiry of everything too early", "desk.expall 699 95\n", "ok short=6000 long=? out=162:short:7000"),
         dumped("an ack of another register", &reply(162, 3, 52), "ok short=6000 long=? out=162:short:7000"),
         dumped("another job's cancel", "desk.cancel 8 162 300\n", "ok short=6000 long=? out=162:short:7000"),
         last("equal edges", &ask("long", 6000), "no 63 "),

@@ -426,6 +426,11 @@ impl<'a> Walk<'a> {
         self.script.call(format!("desk.expire {clock}"));
     }
 
+    /// Adds an expiry of everything due at this clock reading, with a list of so many entries.
+    pub fn expire_all(&mut self, clock: u32, room: usize) {
+        self.script.call(format!("desk.expall {clock} {room}"));
+    }
+
     /// Asks at the clock on the wall.
     fn expire_now(&mut self) {
         self.expire(self.clock);
@@ -447,7 +452,7 @@ impl<'a> Walk<'a> {
     }
 
     /// Closes one ticket in any way there is.
-    fn close_one(&mut self) {
+    pub fn close_one(&mut self) {
         let (address, ticket) = match self.ticket() {
             Some(held) => held,
             None => return,

@@ -214,7 +214,7 @@ fn open_again(walk: &mut Walk, old: &Ticket) {
 }
 
 /// The answer to an old ticket, right or altered in one way or more, now and then one that can't be read.
-fn late_answer(walk: &mut Walk, address: u8, old: &Ticket) {
+pub fn late_answer(walk: &mut Walk, address: u8, old: &Ticket) {
     let mut reply = walk.fitting_reply(address, old);
     if walk.random().one_in(6) {
         return walk.unread(reply);

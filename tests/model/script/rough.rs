@@ -2,7 +2,7 @@
 
 use super::receiver_walk::MOST_FED;
 use super::{buffer, Script};
-use crate::calls::{hex, LONGEST_LINE, MOST_NAMED};
+use crate::calls::{hex, LONGEST_LINE, MOST_ENTRIES, MOST_NAMED};
 use crate::random::Random;
 
 /// One right line of each call.
@@ -49,6 +49,9 @@ const SHEET_SAMPLES: [&str; 4] = [
     "sheet.check 010002000c0000001c0000000f300301000000000f3201020200000034120102",
     "sheet.read 010002000c0000001c0000000f300301000000000f3201020200000034120102 1 a1a2a3",
 ];
+
+/// The same of the call that expires everything due.
+const EXPALL_SAMPLES: [&str; 2] = ["desk.expall 109 3", "desk.expall 4294967295 0"];
 
 /// Words that are wrong in some places or in all of them.
 const ODD_WORDS: [&str; 32] = [
@@ -193,6 +196,35 @@ const NO_SHEET_CALLS: [&str; 35] = [
     "Sheet.check -",
 ];
 
+/// Lines that are no calls to expire everything due, numbers one past their type, and rooms that would be 1 or 44 of a
+/// narrower type.
+const NO_EXPALL_CALLS: [&str; 24] = [
+    "desk.expall",
+    "desk.expall ",
+    "desk.expall 109",
+    "desk.expall 109 ",
+    "desk.expall 109 -",
+    "desk.expall - 3",
+    "desk.expall  109 3",
+    "desk.expall 109  3",
+    "desk.expall 109 3 ",
+    "desk.expall 109 3 0",
+    "desk.expall 109 3 a1a2",
+    "desk.expall -1 3",
+    "desk.expall 109 -1",
+    "desk.expall +1 3",
+    "desk.expall 109 +3",
+    "desk.expall 4294967296 3",
+    "desk.expall 109 256",
+    "desk.expall 109 257",
+    "desk.expall 109 300",
+    "desk.expall 109 65537",
+    "desk.expall 109 4294967297",
+    "desk.expall 109 18446744073709551617",
+    "desk.expireall 109 3",
+    "Desk.expall 109 3",
+];
+
 /// Every call with numbers from all over their types.
 pub fn any_numbers(script: &mut Script) {
     for _ in 0..9 {
@@ -335,6 +367,29 @@ pub fn sheet_lines(script: &mut Script) {
         let named: Vec<String> = (0..count).map(|register| format!("1:{}:1:1:a1", register % 256)).collect();
         script.call(format!("sheet.write {} a1a2", named.join(";")));
     }
+}
+
+/// The call that expires everything due with any clock and with rooms around the most there are, on a desk of one
+/// ticket, then lines that are none of it, or nearly; the last calls show what these have left.
+pub fn expall_lines(script: &mut Script) {
+    script.call("desk.new");
+    for room in [0, 1, 2, MOST_ENTRIES - 1, MOST_ENTRIES, MOST_ENTRIES + 1, MOST_ENTRIES + 2] {
+        let (job, opened, clock) = (script.random.word().max(1), script.random.word(), script.random.word());
+        let wait = script.random.between(1, 60000);
+        script.call(format!("desk.open {job} 15 4 102 - {wait} 0 {opened} {}", hex(&buffer(12))));
+        script.call(format!("desk.expall {clock} {room}"));
+    }
+    script.call("desk.open 7 15 4 102 - 100 0 9 a1a2a3a4a5a6a7a8a9aaabac");
+    for sample in EXPALL_SAMPLES.iter().cycle().take(2 * 8) {
+        let line = amiss(&mut script.random, sample);
+        script.call(line);
+    }
+    for line in NO_EXPALL_CALLS {
+        script.call(line);
+    }
+    script.call("desk.dump");
+    script.call(format!("desk.expall 4294967295 {MOST_ENTRIES:040}"));
+    script.call("desk.dump");
 }
 
 /// A setting with numbers of any value, as a call line names it.

@@ -12,16 +12,16 @@ use crate::varia::{Edge, Varia, Wish, MOST_ATTENUATION};
 
 /// How an edge request ends.
 #[derive(Clone, Copy)]
-enum End {
+pub enum End {
     /// A reply of this type is booked.
     Reply(u8),
     Cancel,
     Expiry,
 }
 
-const EDGES: [Edge; 2] = [Edge::Short, Edge::Long];
+pub const EDGES: [Edge; 2] = [Edge::Short, Edge::Long];
 const ENDS: [End; 6] = [End::Reply(3), End::Reply(0), End::Reply(1), End::Reply(2), End::Cancel, End::Expiry];
-const ACK: End = End::Reply(3);
+pub const ACK: End = End::Reply(3);
 /// Edges at the ends of their numbers, with bytes that are substituted, and of ordinary light.
 const VALUES: [u16; 18] =
     [0, 1, 2, 10, 13, 94, 255, 256, 257, 2573, 3338, 24158, 4000, 8400, 32767, 32768, 65534, 65535];
@@ -59,7 +59,7 @@ pub fn no_box_yet(script: &mut Script) {
 }
 
 /// Makes a box for a job that other openings have too, on an address that a VARIA can have, or any.
-fn new_box(walk: &mut Walk) {
+pub fn new_box(walk: &mut Walk) {
     let random = walk.random();
     let job = if random.one_in(6) { random.word().max(1) } else { random.pick(&[1, 2, 3, 7, 9, 4294967295]) };
     let module = match random.below(3) {
@@ -71,17 +71,17 @@ fn new_box(walk: &mut Walk) {
 }
 
 /// The box as the walk has it now.
-fn the_box(walk: &Walk) -> Varia {
+pub fn the_box(walk: &Walk) -> Varia {
     walk.varia().cloned().expect("a walk makes its box first")
 }
 
 /// Adds the box's state to the script.
-fn dump(walk: &mut Walk) {
+pub fn dump(walk: &mut Walk) {
     walk.add("varia.dump");
 }
 
 /// The edge that this one is checked against.
-fn other(edge: Edge) -> Edge {
+pub fn other(edge: Edge) -> Edge {
     match edge {
         Edge::Short => Edge::Long,
         Edge::Long => Edge::Short,
@@ -89,7 +89,7 @@ fn other(edge: Edge) -> Edge {
 }
 
 /// Adds a wish with this waiting time and a buffer of that length, and hands its answer over.
-fn wish_with(walk: &mut Walk, wish: Wish, wait: u32, room: usize) -> String {
+pub fn wish_with(walk: &mut Walk, wish: Wish, wait: u32, room: usize) -> String {
     let words = match wish {
         Wish::Set(edge, value) => format!("{} {value}", edge.name()),
         Wish::Attenuate(value) => format!("att {value}"),
@@ -106,7 +106,7 @@ fn needed(walk: &Walk, wish: Wish) -> usize {
 }
 
 /// Adds a wish with a right waiting time and enough room, and hands its answer over.
-fn wish(walk: &mut Walk, wish: Wish) -> String {
+pub fn wish(walk: &mut Walk, wish: Wish) -> String {
     let wait = walk.random().pick(&[1, 2, 100, 500, 3000, 59999, 60000]);
     let needed = needed(walk, wish);
     let room = enough(walk.random(), needed);
@@ -127,7 +127,7 @@ fn value(walk: &mut Walk, edge: Edge) -> u16 {
 }
 
 /// A value for an edge that is in order with any such value for the other one.
-fn orderly(random: &mut Random, edge: Edge) -> u16 {
+pub fn orderly(random: &mut Random, edge: Edge) -> u16 {
     match edge {
         Edge::Short => random.pick(&[5000, 5001, 6000, 24158, 65534, 65535]),
         Edge::Long => random.pick(&[0, 1, 2573, 3338, 4998, 4999]),
@@ -143,7 +143,7 @@ fn attenuation(random: &mut Random) -> u16 {
 }
 
 /// A wish of any sort, mostly for an edge.
-fn any_wish(walk: &mut Walk) -> Wish {
+pub fn any_wish(walk: &mut Walk) -> Wish {
     match walk.random().below(10) {
         0..=3 => Wish::Set(Edge::Short, value(walk, Edge::Short)),
         4..=6 => Wish::Set(Edge::Long, value(walk, Edge::Long)),
@@ -170,7 +170,7 @@ fn each_wish(walk: &mut Walk) -> [Wish; 5] {
 }
 
 /// The ticket of the edge request that is out, with its address.
-fn edge_ticket(walk: &Walk) -> Option<(u8, Ticket)> {
+pub fn edge_ticket(walk: &Walk) -> Option<(u8, Ticket)> {
     let address = walk.varia()?.out?.address;
     Some((address, walk.desk().tickets.get(&address)?.clone()))
 }
@@ -187,7 +187,7 @@ fn other_ticket(walk: &mut Walk) -> Option<(u8, Ticket)> {
 }
 
 /// Books a reply of this type on a ticket, with the ticket's register or 0.
-fn book(walk: &mut Walk, address: u8, ticket: &Ticket, type_no: u8) {
+pub fn book(walk: &mut Walk, address: u8, ticket: &Ticket, type_no: u8) {
     let random = walk.random();
     let register = if type_no != 8 && random.one_in(3) { 0 } else { ticket.register };
     let length = if type_no == 8 || random.one_in(6) { random.pick(&[0, 1, 2, 2, 2, 3]) } else { 0 };
@@ -214,14 +214,14 @@ fn close(walk: &mut Walk, address: u8, ticket: &Ticket, way: End) {
 }
 
 /// Ends the edge request that is out in this way, if there is one, and tells its address and what it was.
-fn end(walk: &mut Walk, way: End) -> Option<(u8, Ticket)> {
+pub fn end(walk: &mut Walk, way: End) -> Option<(u8, Ticket)> {
     let (address, ticket) = edge_ticket(walk)?;
     close(walk, address, &ticket, way);
     Some((address, ticket))
 }
 
 /// Sets an edge to an orderly value, and ends that request in this way.
-fn set(walk: &mut Walk, edge: Edge, way: End) {
+pub fn set(walk: &mut Walk, edge: Edge, way: End) {
     let value = orderly(walk.random(), edge);
     wish(walk, Wish::Set(edge, value));
     end(walk, way);
@@ -290,7 +290,7 @@ pub fn order(script: &mut Script) {
 }
 
 /// The value of an edge that no value of the other one is in order with.
-fn farthest(edge: Edge) -> u16 {
+pub fn farthest(edge: Edge) -> u16 {
     match edge {
         Edge::Short => 0,
         Edge::Long => 65535,
