@@ -58,12 +58,12 @@ step desk clock = elim (decLt (duePlace desk clock) 95) [
   | no h ↦ inl (no-due desk clock h)
 ]
 
--- the first entry, and the others
-first-entry : (job address : ℕ) (rest : List ℕ) → (jobOf (job ∷ address ∷ rest) 0 ≡ job) × (addressOf (job ∷ address ∷ rest) 0 ≡ address)
+-- an entry is its job and then its address; the first, and the others
+pub first-entry : (job address : ℕ) (rest : List ℕ) → (jobOf (job ∷ address ∷ rest) 0 ≡ job) × (addressOf (job ∷ address ∷ rest) 0 ≡ address)
 unfolding jobOf addressOf
 first-entry job address rest = (refl, refl)
 
-entry-on : (job address : ℕ) (rest : List ℕ) (i : ℕ)
+pub entry-on : (job address : ℕ) (rest : List ℕ) (i : ℕ)
     → (jobOf (job ∷ address ∷ rest) (suc i) ≡ jobOf rest i) × (addressOf (job ∷ address ∷ rest) (suc i) ≡ addressOf rest i)
 unfolding jobOf addressOf
 entry-on job address rest i =

@@ -77,7 +77,7 @@ pub use Rattle.evenings.proofs.Plainly.{begins-plainly, goes-on-set, goes-on-at
 pub use Rattle.evenings.proofs.Plainly.{out-there, out-asked-only, out-elsewhere, out-once, known-plainly, known-by-one, known-otherwise, ack-replaces}
 pub use Rattle.evenings.proofs.Plainly.{short-known, long-known, known-in-order, out-stands, none-is-out}
 -- ---- 02, #107: everything due is expired as by single calls, and the nights count each of its closings
-pub use Rattle.overdue.proofs.Laws.{expired-is, sweeps, as-single-calls}
+pub use Rattle.overdue.proofs.Laws.{expired-is, first-entry, entry-on, sweeps, as-single-calls}
 pub use Rattle.overdue.proofs.Laws.{each-due, entries-rise, others-stay, each-rests, turn-stays, count-within, nothing-left, entries-long}
 -- ---- 02, #106: a settings sheet: "Equal settings give equal sheets and the reverse."
 pub use Rattle.sheet.proofs.Written.{sheet-right, held-of-sheet, held-writable, sheet-most, same-sheet, same-settings}

@@ -16,7 +16,8 @@ use Rattle.rows.proofs.Settled.{settled}
 use Rattle.rows.specs.Settled.{Settled}
 use Rattle.setting.specs.declared.Head.{Head}
 use Rattle.setting.specs.declared.Fault.{Fault}
-use Rattle.setting.specs.Setting.{lengthOf, lengthsTo, Above, Allowed, Some, Falls, Unfit, headOf, tailOf, rowsIn, heads, tails, isAbove, isAllowed, falls, unfit, someOf, Numbers, Measures, NamesRow, TellsRow, FindsFall, FindsUnfit}
+use Rattle.setting.specs.Setting.{lengthOf, lengthsTo, Above, Allowed, Some, Falls, Unfit, headOf, tailOf, rowsIn, heads, tails, isAbove}
+use Rattle.setting.specs.Setting.{isAllowed, falls, unfit, someOf, Numbers, Measures, NamesRow, TellsRow, FindsFall, FindsUnfit}
 
 -- ---- tests decide the conditions
 

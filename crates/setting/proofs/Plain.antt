@@ -103,14 +103,7 @@ unfit-plainly at k = (λ f. f, λ f. f)
 pub numbers-are : (f : Fault) (r : ℕ) → Numbers f r
     → (f ≡ ShortSheet → r ≡ 65) × (f ≡ OtherVersion → r ≡ 66) × (f ≡ WrongHeader → r ≡ 67) × (f ≡ OutOfOrder → r ≡ 68) × (f ≡ NotAllowed → r ≡ 69)
     × (f ≡ WrongPlaces → r ≡ 70) × (f ≡ NoSuchRecord → r ≡ 56) × (f ≡ NoRoom → r ≡ 57) × (f ≡ TooMany → r ≡ 79)
-numbers-are f r p = (
-  λ e. p ∙ ap faultNumber e,
-  λ e. p ∙ ap faultNumber e,
-  λ e. p ∙ ap faultNumber e,
-  λ e. p ∙ ap faultNumber e,
-  λ e. p ∙ ap faultNumber e,
-  λ e. p ∙ ap faultNumber e,
-  λ e. p ∙ ap faultNumber e,
-  λ e. p ∙ ap faultNumber e,
-  λ e. p ∙ ap faultNumber e,
-)
+numbers-are f r p = (is, is, is, is, is, is, is, is, is)
+  where
+    is : {g : Fault} → f ≡ g → r ≡ faultNumber g
+    is e = p ∙ ap faultNumber e

@@ -20,7 +20,9 @@ use Rattle.setting.specs.declared.Head.{Head}
 use Rattle.setting.specs.declared.Fault.{Fault}
 use Rattle.setting.specs.declared.Fault.the-variants.{OtherVersion, NoSuchRecord, NoRoom}
 use Rattle.setting.specs.Setting.{Setting, lengthOf, heads, faultNumber}
-use Rattle.sheet.specs.Sheet.{sheetOf, named, valued, Writable, versionIn, countIn, recordsIn, held, HasNot, IsNarrow, checkRows, Right, readRows, readTests, checkRefusal, readRefusal, checkAnswer, checkTold, recordAs, readAnswer, readTold, valueAt, roomAfter, Checks, Reads}
+use Rattle.sheet.specs.Sheet.{sheetOf, named, valued, Writable, versionIn, countIn, recordsIn, held, HasNot, IsNarrow, checkRows, Right}
+use Rattle.sheet.specs.Sheet.{readRows, readTests, checkRefusal, readRefusal, checkAnswer, checkTold, recordAs, readAnswer, readTold, valueAt}
+use Rattle.sheet.specs.Sheet.{roomAfter, Checks, Reads}
 use Rattle.sheet.specs.declared.Checked.{Checked}
 use Rattle.sheet.specs.declared.Checked.the-variants as checked
 use Rattle.sheet.specs.declared.Record.{Record}

@@ -10,7 +10,8 @@ use lib.ListN.{length, take, drop}
 use Rattle.values.specs.Values.{natural}
 use Rattle.setting.specs.declared.Fault.{Fault}
 use Rattle.setting.specs.Setting.{Setting, lengthOf, lengthsTo, Allowed, Falls, Unfit, heads, tails, settingsIn, Numbers}
-use Rattle.sheet.specs.Sheet.{named, valued, fieldAt, versionIn, countIn, recordsAt, valuesAt, recordsIn, valuesIn, held, IsShort, IsOther, IsWrongHeader, HasFall, HasUnfit, Misplaced, HasMisplaced, HasNot, IsNarrow, checkTold, readTold}
+use Rattle.sheet.specs.Sheet.{named, valued, fieldAt, versionIn, countIn, recordsAt, valuesAt, recordsIn, valuesIn, held, IsShort, IsOther}
+use Rattle.sheet.specs.Sheet.{IsWrongHeader, HasFall, HasUnfit, Misplaced, HasMisplaced, HasNot, IsNarrow, checkTold, readTold}
 use Rattle.sheet.specs.declared.Checked.the-variants as checked
 use Rattle.sheet.specs.declared.Record.{Record}
 use Rattle.sheet.specs.declared.Reading.the-variants as reading

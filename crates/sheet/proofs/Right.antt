@@ -17,7 +17,9 @@ use Rattle.setting.specs.declared.Head.{Head}
 use Rattle.setting.specs.Setting.{lengthOf, lengthsTo, headOf, tailOf, rowsIn, heads, tails, settingsIn}
 use Rattle.setting.proofs.Laws.{equal, decides-some, decides-falls, decides-unfit, all-rise, none-falls, all-allowed, none-unfit, heads-at, tails-at, rows-whole}
 use Rattle.setting.proofs.Lists.{headFrom, row-on, lengths-same, lengths-row, length-settings}
-use Rattle.sheet.specs.Sheet.{headerFor, recordFor, recordsFor, valuesFor, sheetOf, fieldAt, versionIn, countIn, recordsAt, valuesAt, recordsIn, valuesIn, held, IsShort, IsOther, IsWrongHeader, HasFall, HasUnfit, Misplaced, HasMisplaced, checkRows, Right, misplaced, isWrongHeader, isMisplaced, checkTests, checkRefusal}
+use Rattle.sheet.specs.Sheet.{headerFor, recordFor, recordsFor, valuesFor, sheetOf, fieldAt, versionIn, countIn, recordsAt, valuesAt, recordsIn}
+use Rattle.sheet.specs.Sheet.{valuesIn, held, IsShort, IsOther, IsWrongHeader, HasFall, HasUnfit, Misplaced, HasMisplaced, checkRows, Right}
+use Rattle.sheet.specs.Sheet.{misplaced, isWrongHeader, isMisplaced, checkTests, checkRefusal}
 use Rattle.sheet.specs.Promised.{Headed, Whole}
 
 -- ---- the tests of a check decide its rows

@@ -1,7 +1,7 @@
 -- What the code's steps need.
 -- Assumes nothing.
 use mathlib.Core.Path.{_≡_, refl, sym, ap, ap₂, _∙_}
-use mathlib.Core.Bool.{Bool, true, false, not}
+use mathlib.Core.Bool.{Bool, true, false, not, cond}
 use mathlib.Core.List.{List}
 use mathlib.Core.Logic.{_≢_}
 use mathlib.Core.Option.{Option, some, none}
@@ -15,15 +15,17 @@ use lib.Seq.{take-all, drop-drop}
 use Rattle.lent.specs.Lent.{over, overAt}
 use Rattle.lent.proofs.Laws.{overAt-zero}
 use Rattle.first.specs.First.{firstPlace}
+use Rattle.rows.specs.Rows.{firstOf}
 use Rattle.rows.proofs.Laws.{done-exactly, clash}
 use Rattle.values.specs.Values.{natural}
 use Rattle.setting.specs.declared.Head.{Head}
 use Rattle.setting.specs.declared.Fault.{Fault}
-use Rattle.setting.specs.declared.Fault.the-variants.{ShortSheet, OtherVersion, WrongHeader, NoSuchRecord, NoRoom}
-use Rattle.setting.specs.Setting.{lengthOf, lengthsTo, rowsIn, heads, tails, someOf}
+use Rattle.setting.specs.declared.Fault.the-variants.{ShortSheet, OtherVersion, WrongHeader, NoSuchRecord, NoRoom, WrongPlaces}
+use Rattle.setting.specs.Setting.{lengthOf, lengthsTo, rowsIn, heads, tails, someOf, falls, unfit}
 use Rattle.setting.proofs.Laws.{rows-whole}
 use Rattle.setting.proofs.Steps.{some-found, nothing-found, some-at, some-none}
-use Rattle.sheet.specs.Sheet.{fieldAt, versionIn, countIn, recordsAt, valuesAt, recordsIn, valuesIn, Right, misplaced, isWrongHeader, isMisplaced, checkRefusal, checkAnswer, readRefusal, valueAt, Checks, ChecksRecords, Reads, Shows}
+use Rattle.sheet.specs.Sheet.{fieldAt, versionIn, countIn, recordsAt, valuesAt, recordsIn, valuesIn, Right, misplaced, isWrongHeader}
+use Rattle.sheet.specs.Sheet.{isMisplaced, checkRefusal, checkAnswer, readRefusal, valueAt, Checks, ChecksRecords, Reads, Shows, recordTests}
 use Rattle.sheet.specs.declared.Checked.{Checked}
 use Rattle.sheet.specs.declared.Checked.the-variants as checked
 use Rattle.sheet.specs.declared.Reading.{Reading}
@@ -149,6 +151,19 @@ pub misplaced-told : (sheet : List ℕ) (n : ℕ) {t : Bool} → n ≡ countIn s
 unfolding valuesIn
 misplaced-told sheet n e reach f =
     sym (rw (rows-are sheet n e, rows-many sheet reach, e, ← length-drop (12 + 8 * countIn sheet) sheet) at f)
+
+-- where 68 and 69 do not refuse, 70 alone is left to ask
+pub past-69 : (sheet : List ℕ) (n r q : ℕ) {t : Bool} → n ≡ countIn sheet → 12 + 8 * countIn sheet ≤ length sheet
+    → r ≡ firstPlace (falls (heads (take (12 + 8 * n - 12) (drop 12 sheet)))) (rowsIn (take (12 + 8 * n - 12) (drop 12 sheet))) → n ≤ r
+    → q ≡ firstPlace (unfit (heads (take (12 + 8 * n - 12) (drop 12 sheet)))) (rowsIn (take (12 + 8 * n - 12) (drop 12 sheet))) → n ≤ q
+    → t ≡ isMisplaced (rowsIn (take (12 + 8 * n - 12) (drop 12 sheet))) (take (12 + 8 * n - 12) (drop 12 sheet)) (length sheet - (12 + 8 * n))
+    → firstOf (recordTests sheet) ≡ cond t (some WrongPlaces) none
+past-69 sheet n r q e reach f l g m h =
+    rw (
+      no-record-found sheet (λ (rows : List ℕ). falls (heads rows)) n r e reach f l,
+      no-record-found sheet (λ (rows : List ℕ). unfit (heads rows)) n q e reach g m,
+      misplaced-told sheet n e reach h,
+    )
 
 -- ---- a record is shown
 

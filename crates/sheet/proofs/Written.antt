@@ -11,7 +11,8 @@ use Rattle.setting.specs.declared.Head.{Head}
 use Rattle.setting.specs.Setting.{Setting, lengthOf, lengthsTo, heads, tails}
 use Rattle.setting.proofs.Laws.{length-allowed, lengths-le}
 use Rattle.setting.proofs.Lists.{headFrom, lengths-same, no-lengths, lengths-next, lengths-mono, length-settings, setting-at}
-use Rattle.sheet.specs.Sheet.{headerFor, recordFor, recordsFor, valuesFor, sheetOf, nothing, named, valued, Writable, fieldAt, versionIn, countIn, recordsAt, valuesAt, recordsIn, valuesIn, held, valueAt, Right}
+use Rattle.sheet.specs.Sheet.{headerFor, recordFor, recordsFor, valuesFor, sheetOf, nothing, named, valued, Writable, fieldAt, versionIn}
+use Rattle.sheet.specs.Sheet.{countIn, recordsAt, valuesAt, recordsIn, valuesIn, held, valueAt, Right}
 use Rattle.sheet.specs.Promised.{Sized, Headed, Whole}
 use Rattle.sheet.proofs.Rowed.{length-record, sized-on, sized-first, lengths-named, heads-by, tails-by, settings-back, records-by}
 use Rattle.sheet.proofs.Right.{whole, right, heads-are, lengths-are, values-long, sheet-of-held}

@@ -17,7 +17,8 @@ use Rattle.setting.proofs.Lists.{headFrom, row-on, lengths-same, lengths-next, 
 use Rattle.sheet.specs.Sheet.{headerFor, recordFor, recordsFor, valuesFor, sheetOf}
 use Rattle.sheet.proofs.Right.{row-parts, values-are}
 use Rattle.sheet.proofs.Written.{length-sheet}
-use Rattle.sheet_writer.specs.Writer.{rowsFor, handed, AreMany, HaveFall, Misstated, HaveWrongLength, HaveUnfit, IsNarrow, writeRows, misstated, isMisstated, writeTests, writeRefusal, laidFrom}
+use Rattle.sheet_writer.specs.Writer.{rowsFor, handed, AreMany, HaveFall, Misstated, HaveWrongLength, HaveUnfit, IsNarrow, writeRows, misstated}
+use Rattle.sheet_writer.specs.Writer.{isMisstated, writeTests, writeRefusal, laidFrom}
 
 -- ---- the tests decide the rows
 

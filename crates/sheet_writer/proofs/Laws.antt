@@ -25,7 +25,8 @@ use Rattle.sheet.specs.Sheet.{recordFor, valuesFor, sheetOf, named, valued, not
 use Rattle.sheet.specs.Promised.{Sized}
 use Rattle.sheet.proofs.Rowed.{rowsBy, length-rows, many-rows, heads-by, tails-by, settings-back}
 use Rattle.sheet.proofs.Written.{length-values, sheet-right, held-of-sheet, sheet-most}
-use Rattle.sheet_writer.specs.Writer.{rowsFor, handed, AreMany, HaveFall, Misstated, HaveWrongLength, HaveUnfit, IsNarrow, writeRows, writeRefusal, writeAnswer, writeTold, Writes}
+use Rattle.sheet_writer.specs.Writer.{rowsFor, handed, AreMany, HaveFall, Misstated, HaveWrongLength, HaveUnfit, IsNarrow, writeRows}
+use Rattle.sheet_writer.specs.Writer.{writeRefusal, writeAnswer, writeTold, Writes}
 use Rattle.sheet_writer.specs.declared.Writing.{Writing}
 use Rattle.sheet_writer.specs.declared.Writing.the-variants as writing
 use Rattle.sheet_writer.specs.Promised.{Written}

@@ -1,10 +1,15 @@
-use mathlib.Core.Path.{ap}
+use mathlib.Core.Path.{_≡_, ap}
+use mathlib.Core.Bool.{cond}
 use mathlib.Core.List.{List}
+use mathlib.Core.Option.{some, none}
 use Prim.Native.Nat.{ℕ}
 use native.Mathlib.Omega.{arith}
+use Rattle.rows.specs.Rows.{firstOf}
+use Rattle.setting.specs.declared.Fault.the-variants.{WrongPlaces}
 use Rattle.setting.specs.Setting.{heads, falls, unfit}
+use Rattle.sheet.specs.Sheet.{recordTests}
 use Rattle.sheet.specs.declared.Checked.the-variants as checked
-use Rattle.sheet.proofs.Steps.{counted, rows-few, record-found, no-record-found, misplaced-told}
+use Rattle.sheet.proofs.Steps.{counted, rows-few, record-found, no-record-found, past-69}
 use borrow.Author.Needs.{needs}
 use Rattle.sheet.proofs.check_records.Statement.{statement}
 use Rattle.sheet.proofs.check_records.Tie as tie
@@ -61,33 +66,23 @@ is-misplaced-requires c κs =
     let f = c .before .before .before .before .before in
     rows-few _ (f .field .result) (omega (arith, counted (f .before .before .args .sheet .now) (f .field .result) (f .field .ensures), f .before .before .pre))
 
-returns-3 : tie.Need-returns-3
-returns-3 c =
-    let found = c .before .before .before .before in
+-- 70 alone decides
+told : (c : tie.After-is-misplaced)
+    → firstOf (recordTests (c .before .before .before .before .before .before .before .before .args .sheet .now))
+    ≡ cond (c .is-misplaced .result) (some WrongPlaces) none
+told c =
+    let found = c .before .before .before in
     let f = found .before .before .before in
-    let sheet = f .before .before .args .sheet .now in
-    let n = counted sheet _ (f .field .ensures) in
-    let reach = f .before .before .pre .1 in
-    rw (
-      no-record-found sheet (λ (rows : List ℕ). falls (heads rows)) _ _ n reach (found .before .first-fall .ensures) (c .before .before .before .if1 .left),
-      no-record-found sheet (λ (rows : List ℕ). unfit (heads rows)) _ _ n reach (found .first-unfit .ensures) (c .before .before .if2 .left),
-      misplaced-told sheet _ n reach (c .before .is-misplaced .ensures),
-      c .if3 .taken,
-    )
+    past-69 _ _ _ _ (counted _ _ (f .field .ensures)) (f .before .before .pre .1) (found .before .first-fall .ensures) (c .before .before .if1 .left)
+    (found .first-unfit .ensures) (c .before .if2 .left) (c .is-misplaced .ensures)
+
+returns-3 : tie.Need-returns-3
+returns-3 c = rw (told (c .before), c .if3 .taken)
 
 returns-4 : tie.Need-returns-4
 returns-4 c =
-    let found = c .before .before .before .before in
-    let f = found .before .before .before in
-    let sheet = f .before .before .args .sheet .now in
-    let n = counted sheet _ (f .field .ensures) in
-    let reach = f .before .before .pre .1 in
-    rw (
-      no-record-found sheet (λ (rows : List ℕ). falls (heads rows)) _ _ n reach (found .before .first-fall .ensures) (c .before .before .before .if1 .left),
-      no-record-found sheet (λ (rows : List ℕ). unfit (heads rows)) _ _ n reach (found .first-unfit .ensures) (c .before .before .if2 .left),
-      misplaced-told sheet _ n reach (c .before .is-misplaced .ensures),
-      c .if3 .left,
-    ) (ap checked.Right n)
+    let f = c .before .before .before .before .before .before .before in
+    rw (told (c .before), c .if3 .left) (ap checked.Right (counted _ _ (f .field .ensures)))
 
 pub check-records-spec : {M : Type 1} → statement M
 check-records-spec =
