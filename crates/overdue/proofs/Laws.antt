@@ -7,26 +7,28 @@ use mathlib.Core.Logic.{_≢_, _⊎_, inl, inr, ⊎-elim}
 use Prim.Native.Nat.{ℕ, zero, suc, _+_, _-_, _*_, _/_, _≤_, _<_}
 use native.Mathlib.Decide.{decLt}
 use native.Mathlib.Omega.{arith}
-use lib.ListN.{length, getD, drop, replicate}
+use lib.ListN.{length, getD, take, drop, replicate}
+use Rattle.lent.specs.Lent.{over}
 use lib.Seq.{getD-set-same, getD-set-other, getD-take, take-append-seam, drop-append-seam}
 use Rattle.lent.proofs.Laws.{length-over, over-is}
 use Rattle.first.proofs.Laws.{ended}
 use Rattle.rows.proofs.Settled.{settled-parts}
 use Rattle.rows.specs.Settled.{Settled}
 use Rattle.desk.specs.Close.{duePlace, withdrawnOn, Expires}
-use Rattle.desk.specs.Desk.{ticketAt, ticketOn, OpenOn}
+use Rattle.desk.specs.Desk.{ticketAt, ticketOn, OpenOn, freshDesk}
+use Rattle.nights.proofs.Laws.{any-night}
 use Rattle.desk.proofs.Laws.{on-host, open-within}
 use Rattle.ticket.specs.Due.{IsDue, isDue}
 use Rattle.ticket.specs.Ticket.{noTicket, withdrawnAt}
 use Rattle.ticket.proofs.Laws.{decides-due}
-use Rattle.rows.proofs.Laws.{told-true}
+use Rattle.rows.proofs.Laws.{told-true, told-false}
 use Rattle.ticket.specs.declared.Ticket.{Ticket}
 use Rattle.desk.specs.declared.Desk.{Desk}
-use Rattle.nights.specs.Night.{Event, expires, withdrawn, ofClosing, after, eventOf, afterAll, answeredAll}
+use Rattle.nights.specs.Night.{Event, Call, Night, expires, withdrawn, ofClosing, after, eventOf, afterAll, answeredAll}
 use Rattle.overdue.specs.declared.Swept.{Swept}
 use Rattle.overdue.specs.Overdue.{expired, entries, howMany, deskAfter, roomIn, jobOf, addressOf, told, ExpiresAll}
 use Rattle.overdue.specs.Promised.{Entered, Sweeping}
-use Rattle.overdue.proofs.Pass.{NoneUnder, expired-here, withdrawn-at, nothing-more, one-more, none-on}
+use Rattle.overdue.proofs.Pass.{NoneUnder, expired-here, withdrawn-at, nothing-more, one-more, none-on, room-is}
 
 -- ---- the single call that is repeated is `expire`
 
@@ -366,6 +368,99 @@ as-single-calls (suc n) desk clock past = ⊎-elim
     let call = rw one at (single-more (howMany n next clock) desk clock past) in
     let rest = as-single-calls n next clock (withdrawn job (161 + k) clock ∷ past) in
     rw (more .0, more .1, more .2, told-more job (161 + k) (entries n next clock) clock past) (rest .0 ∙ sym (call .0), rest .1 ∙ sym (call .1))) (step desk clock)
+
+-- ---- so the call itself: as many single expiries as it answers, no more than the list has room for and all that are due where there is more, and
+-- the list's first entries say what their callers saw
+
+-- the entries that were filled are the definition's
+filled : (desk : Desk) (clock : ℕ) (list : List ℕ) (r : Swept) (list′ : List ℕ) → ExpiresAll desk clock list r list′
+    → take (2 * r .count) list′ ≡ entries (roomIn list) desk clock
+unfolding n es
+filled desk clock list r list′ p =
+    rw (p .1, ← entries-long (roomIn list) desk clock, laid desk clock list r list′ p)
+    (take-append-seam (entries (roomIn list) desk clock) (drop (length (entries (roomIn list) desk clock)) list))
+
+pub call-as-single : (desk : Desk) (clock : ℕ) (list : List ℕ) (r : Swept) (list′ : List ℕ) → ExpiresAll desk clock list r list′
+    → (r .count ≤ length list / 2)
+    × (r .count < length list / 2 → (place : ℕ) → place < 95 → IsDue clock (ticketAt (r .desk) place) → ⊥)
+    × (r .desk ≡ afterAll desk (replicate (r .count) (expires clock)))
+    × ((past : List Event) → told (take (2 * r .count) list′) clock past ≡ answeredAll desk past (replicate (r .count) (expires clock)))
+    × (drop (2 * r .count) list′ ≡ drop (2 * r .count) list)
+    × (length list′ ≡ length list)
+call-as-single desk clock list r list′ p = (
+  rw (p .1, ← room-is list) (count-within (roomIn list) desk clock),
+  rw (p .0, p .1, ← room-is list) (nothing-left (roomIn list) desk clock),
+  rw (p .0, p .1) (as-single-calls (roomIn list) desk clock [] .0),
+  (λ past. rw (filled desk clock list r list′ p, p .1) (as-single-calls (roomIn list) desk clock past .1)),
+  sweeps desk clock list r list′ p .stays,
+  sweeps desk clock list r list′ p .same,
+)
+
+then-all : (first more : List Call) (desk : Desk) (past : List Event)
+    → (afterAll desk (first ++ more) ≡ afterAll (afterAll desk first) more)
+    × (answeredAll desk past (first ++ more) ≡ answeredAll (afterAll desk first) (answeredAll desk past first) more)
+unfolding afterAll answeredAll
+then-all [] more desk past = (refl, refl)
+then-all (c ∷ first) more desk past = then-all first more (after desk c) (eventOf desk c ∷ past)
+
+-- a night goes on with it: after any calls, a sweep, and any calls more
+pub night-swept : (calls : List Call) (clock : ℕ) (list : List ℕ) (r : Swept) (list′ : List ℕ) → ExpiresAll (afterAll freshDesk calls) clock list r list′
+    → (more : List Call) → Night (afterAll (r .desk) more) (answeredAll (r .desk) (told (take (2 * r .count) list′) clock (answeredAll freshDesk [] calls)) more)
+night-swept calls clock list r list′ p more =
+    let c = call-as-single (afterAll freshDesk calls) clock list r list′ p in
+    let sweep : List Call = replicate (r .count) (expires clock) in
+    let one = then-all calls sweep freshDesk [] in
+    let two = then-all (calls ++ sweep) more freshDesk [] in
+    let desk-is : afterAll freshDesk (calls ++ sweep) ≡ r .desk = one .0 ∙ sym (c .2) in
+    let past-is : answeredAll freshDesk [] (calls ++ sweep) ≡ told (take (2 * r .count) list′) clock (answeredAll freshDesk [] calls) = one .1 ∙ sym (c .3 (answeredAll freshDesk [] calls)) in
+    subst (λ (d : Desk). Night (afterAll d more) (answeredAll d (told (take (2 * r .count) list′) clock (answeredAll freshDesk [] calls)) more)) desk-is
+    (subst (λ (past : List Event). Night (afterAll (afterAll freshDesk (calls ++ sweep)) more) (answeredAll (afterAll freshDesk (calls ++ sweep)) past more)) past-is
+    (subst (λ (past : List Event). Night (afterAll (afterAll freshDesk (calls ++ sweep)) more) past) (two .1)
+    (subst (λ (d : Desk). Night d (answeredAll freshDesk [] ((calls ++ sweep) ++ more))) (two .0) (any-night ((calls ++ sweep) ++ more)))))
+
+-- a half entry is no entry
+pub told-half : (job clock : ℕ) (past : List Event) → told (job ∷ []) clock past ≡ past
+unfolding told
+told-half job clock past = refl
+
+over-none : (list : List ℕ) → over [] list ≡ list
+unfolding over
+over-none list = refl
+
+zero-as : (desk : Desk) (clock : ℕ) (list : List ℕ) (r : Swept) (list′ : List ℕ) (n : ℕ) → roomIn list ≡ n → ExpiresAll desk clock list r list′
+    → (entries n desk clock ≡ []) × (howMany n desk clock ≡ 0) × (deskAfter n desk clock ≡ desk) → (r ≡ record { desk = desk; count = 0 }) × (list′ ≡ list)
+zero-as desk clock list r list′ n e p z =
+    let q = rw e at p in
+    let d : r .desk ≡ desk = q .0 ∙ z .2 in
+    let c : r .count ≡ 0 = q .1 ∙ z .1 in
+    (same-swept r desk 0 d c, q .2 ∙ (ap (λ (l : List ℕ). over l list) (z .0) ∙ over-none list))
+  where
+    same-swept : (r : Swept) (d : Desk) (c : ℕ) → r .desk ≡ d → r .count ≡ c → r ≡ record { desk = d; count = c }
+    same-swept r d c a b = rw (← a, ← b) refl
+
+-- "0, for no room or nothing due, isn't a refusal.": the answer is the desk as it was and 0, and nothing else
+pub nothing-done : (desk : Desk) (clock : ℕ) (list : List ℕ) (r : Swept) (list′ : List ℕ) → ExpiresAll desk clock list r list′
+    → (length list < 2) ⊎ ((place : ℕ) → place < 95 → IsDue clock (ticketAt desk place) → ⊥) → (r ≡ record { desk = desk; count = 0 }) × (list′ ≡ list)
+nothing-done desk clock list r list′ p why = ⊎-elim
+    (λ short. zero-as desk clock list r list′ 0 (room-is list ∙ omega (arith, short)) p (none-entered desk clock, none-of desk clock, none-done desk clock))
+    (λ none. zero-as desk clock list r list′ (roomIn list) refl p (nothing-more (roomIn list) desk clock (λ j l. told-false (decides-due clock (ticketAt desk j)) (none j l)))) why
+
+-- ---- what `Sweeping` and `Entered` say, said out of the call
+
+pub sweeps-plainly : (desk : Desk) (clock : ℕ) (list : List ℕ) (r : Swept) (list′ : List ℕ) → ExpiresAll desk clock list r list′
+    → ((i : ℕ) → i < r .count → (place : ℕ) × (place < 95) × (addressOf list′ i ≡ 161 + place) × IsDue clock (ticketOn desk (161 + place)) × (jobOf list′ i ≡ ticketOn desk (161 + place) .asked .job))
+    × ((i : ℕ) → suc i < r .count → addressOf list′ i < addressOf list′ (suc i))
+    × ((i : ℕ) → i < r .count → ticketOn (r .desk) (addressOf list′ i) ≡ withdrawnAt clock)
+    × ((place : ℕ) → ((i : ℕ) → i < r .count → addressOf list′ i ≢ 161 + place) → ticketAt (r .desk) place ≡ ticketAt desk place)
+    × (r .desk .turn ≡ desk .turn)
+sweeps-plainly desk clock list r list′ p =
+    let s = sweeps desk clock list r list′ p in (
+      (λ i l. let e = s .each i l in (e .place, e .host, e .address, e .due, e .job)),
+      s .rise,
+      s .rest,
+      s .others,
+      s .turn,
+    )
 
 -- ---- the call is settled
 

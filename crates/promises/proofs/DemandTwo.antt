@@ -79,6 +79,7 @@ pub use Rattle.evenings.proofs.Plainly.{short-known, long-known, known-in-order
 -- ---- 02, #107: everything due is expired as by single calls, and the nights count each of its closings
 pub use Rattle.overdue.proofs.Laws.{expired-is, first-entry, entry-on, sweeps, as-single-calls}
 pub use Rattle.overdue.proofs.Laws.{each-due, entries-rise, others-stay, each-rests, turn-stays, count-within, nothing-left, entries-long}
+pub use Rattle.overdue.proofs.Laws.{call-as-single, night-swept, nothing-done, sweeps-plainly, told-half}
 -- ---- 02, #106: a settings sheet: "Equal settings give equal sheets and the reverse."
 pub use Rattle.sheet.proofs.Written.{sheet-right, held-of-sheet, held-writable, sheet-most, same-sheet, same-settings}
 pub use Rattle.sheet.proofs.Right.{sheet-of-held}
