@@ -89,7 +89,7 @@ module _ (desk : Desk) (d : ℕ) (asked : Request) (bytes : List ℕ) (clock : �
   place = placeFrom (desk .turn) d
 
   Outcome : Bool → AfterOpen → Type 0
-  Outcome short r = OpensAt (cond short (some NoRoom) none) desk place asked bytes clock room r room′
+  Outcome short r = OpensAt (cond short (some NoRoom) none) desk place d asked bytes clock room r room′
 
   -- what the writer tells, by whether there is too little room
   Told : Bool → Type 0
@@ -106,21 +106,21 @@ module _ (desk : Desk) (d : ℕ) (asked : Request) (bytes : List ℕ) (clock : �
       (go (ltb (length room) (length (requestAt (placeFrom (desk .turn) d) asked bytes))) (rw only at (writes .0), rw only at (writes .1)))
 
   pub opened-at : (n : ℕ) (desk′ : Desk) → w ≡ Written n → desk′ ≡ withTicket desk (placeFrom (desk .turn) d) (newTicket asked clock)
-      → PlacesAt desk d asked bytes clock room (record { desk = desk′; answer = Opened (161 + placeFrom (desk .turn) d) n }) room′
+      → PlacesAt desk d asked bytes clock room (record { desk = desk′; answer = Opened (161 + placeFrom (desk .turn) d) n; count = d + 1 }) room′
   unfolding place Outcome Told
   opened-at n desk′ e laid = written _ go
     where
-      go : (short : Bool) → Told short → Outcome short (record { desk = desk′; answer = Opened (161 + placeFrom (desk .turn) d) n })
+      go : (short : Bool) → Told short → Outcome short (record { desk = desk′; answer = Opened (161 + placeFrom (desk .turn) d) n; count = d + 1 })
       go true told = absurd (let z : _≡_ {A = ℕ} 0 1 = cc (told .0) in omega arith)
       go false told =
-          (ap (Opened (161 + placeFrom (desk .turn) d)) (let same : n ≡ length (requestAt place asked bytes) = cc (told .0) in same), laid, told .1)
+          (ap (Opened (161 + placeFrom (desk .turn) d)) (let same : n ≡ length (requestAt place asked bytes) = cc (told .0) in same), laid, told .1, refl)
 
-  pub no-room-at : (f : Unreadable) → w ≡ NotWritten f → PlacesAt desk d asked bytes clock room (record { desk = desk; answer = Refused NoRoom }) room′
+  pub no-room-at : (f : Unreadable) → w ≡ NotWritten f → PlacesAt desk d asked bytes clock room (record { desk = desk; answer = Refused NoRoom; count = d + 1 }) room′
   unfolding place Outcome Told
   no-room-at f e = written _ go
     where
-      go : (short : Bool) → Told short → Outcome short (record { desk = desk; answer = Refused NoRoom })
-      go true told = (refl, refl, told .1)
+      go : (short : Bool) → Told short → Outcome short (record { desk = desk; answer = Refused NoRoom; count = d + 1 })
+      go true told = (refl, refl, told .1, refl)
       go false told = absurd (let z : _≡_ {A = ℕ} 0 1 = cc (told .0) in omega arith)
 
 -- ---- a reply

@@ -411,7 +411,16 @@ pub looks-settled : (desk : Desk) (address : ℕ) → Settled (Looks desk addres
 looks-settled desk address = settled _
 
 pub opens-settled : (desk : Desk) (asked : Request) (bytes : List ℕ) (clock : ℕ) (room : List ℕ) → Settled {A = AfterOpen × List ℕ} (λ o. Opens desk asked bytes clock room (o .0) (o .1))
-opens-settled desk asked bytes clock room = settled-parts (λ (a : Opening) (b : Desk). record { answer = a; desk = b }) (λ r. r .answer) (λ r. r .desk) (λ r. refl) (λ a b. (refl, refl)) _ _ _
+opens-settled desk asked bytes clock room = opening-settled _ _ _ _
+  where
+    opening-settled : (x : Opening) (y : Desk) (z : List ℕ) (w : ℕ)
+        → Settled {A = AfterOpen × List ℕ} (λ o. (o .0 .answer ≡ x) × (o .0 .desk ≡ y) × (o .1 ≡ z) × (o .0 .count ≡ w))
+    opening-settled x y z w =
+        record {
+          outcome = (record { answer = x; desk = y; count = w }, z);
+          is-allowed = (refl, refl, refl, refl);
+          only = λ other p. rw (sym (p .0), sym (p .1), sym (p .2), sym (p .3)) refl;
+        }
 
 pub replies-settled : (desk : Desk) (frame room : List ℕ) → Settled {A = AfterReply × List ℕ} (λ o. Replies desk frame room (o .0) (o .1))
 replies-settled desk frame room = settled-parts (λ (a : Booking) (b : Desk). record { answer = a; desk = b }) (λ r. r .answer) (λ r. r .desk) (λ r. refl) (λ a b. (refl, refl)) _ _ _

@@ -3,3 +3,4 @@ pub mod Calls
 pub mod Answers
 pub mod Laws
 pub mod Passed
+pub mod Count

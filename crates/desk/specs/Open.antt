@@ -19,7 +19,7 @@ use Rattle.ticket.specs.declared.Ticket.{Ticket}
 use Rattle.desk.specs.Desk.{ticketAt, faultNumber}
 use Rattle.desk.specs.declared.Desk.{Desk}
 use Rattle.desk.specs.declared.Fault.{Fault}
-use Rattle.desk.specs.declared.Fault.the-variants.{Denied, NoneFree, NoRoom}
+use Rattle.desk.specs.declared.Fault.the-variants.{Denied, NoneFree, NoRoom, Unread, Misfit, NotTheirs, NothingDue}
 use Rattle.desk.specs.declared.Opening.{Opening}
 use Rattle.desk.specs.declared.Opening.the-variants.{Opened, Refused}
 use Rattle.desk.specs.declared.AfterOpen.{AfterOpen}
@@ -86,26 +86,42 @@ abbrev pub openDesk : Option Fault → Desk → ℕ → Ticket → Desk
 openDesk (some f) desk place ticket = desk
 openDesk none desk place ticket = withTicket desk place ticket
 
+-- 02, #108: "Opening reports how many addresses it considered: those from the turn up to and including the one given. Refusals carry it
+-- too: 95 with 15, 0 with 10 to 14, and with 16 the count up to the address that would have been given."
+abbrev pub refusedCount : Fault → ℕ → ℕ
+refusedCount (Denied f) distance = 0
+refusedCount NoneFree distance = 95
+refusedCount NoRoom distance = distance + 1
+refusedCount (Unread f) distance = 0
+refusedCount (Misfit f) distance = 0
+refusedCount NotTheirs distance = 0
+refusedCount NothingDue distance = 0
+
+abbrev pub openCount : Option Fault → ℕ → ℕ
+openCount (some f) distance = refusedCount f distance
+openCount none distance = distance + 1
+
 abbrev pub openRoom : Option Fault → List ℕ → List ℕ → List ℕ
 openRoom (some f) telegram room = room
 openRoom none telegram room = over telegram room
 
--- an opening at a place, unless it is refused
-abbrev pub OpensAt : Option Fault → Desk → ℕ → Request → List ℕ → ℕ → List ℕ → AfterOpen → List ℕ → Type 0
-OpensAt refusal desk place asked bytes clock room r room′ =
+-- an opening at a place, so far from the turn, unless it is refused
+abbrev pub OpensAt : Option Fault → Desk → ℕ → ℕ → Request → List ℕ → ℕ → List ℕ → AfterOpen → List ℕ → Type 0
+OpensAt refusal desk place distance asked bytes clock room r room′ =
     (r .answer ≡ openAnswer refusal (161 + place) (length (requestAt place asked bytes)))
     × (r .desk ≡ openDesk refusal desk place (newTicket asked clock))
     × (room′ ≡ openRoom refusal (requestAt place asked bytes) room)
+    × (r .count ≡ openCount refusal distance)
 
 -- ---- the contracts
 
 -- `open`
 abbrev pub Opens : Desk → Request → List ℕ → ℕ → List ℕ → AfterOpen → List ℕ → Type 0
 Opens desk asked bytes clock room r room′ =
-    OpensAt (openRefusal desk asked bytes clock (length room)) desk (givenPlace desk clock) asked bytes clock room r room′
+    OpensAt (openRefusal desk asked bytes clock (length room)) desk (givenPlace desk clock) (distanceOf desk clock) asked bytes clock room r room′
 
 -- `open_at`: rows 15 and 16 and the opening, at any distance from the turn
 abbrev pub PlacesAt : Desk → ℕ → Request → List ℕ → ℕ → List ℕ → AfterOpen → List ℕ → Type 0
 PlacesAt desk distance asked bytes clock room r room′ =
     OpensAt (firstOf (placeTests distance (requestAt (placeFrom (desk .turn) distance) asked bytes) (length room))) desk
-    (placeFrom (desk .turn) distance) asked bytes clock room r room′
+    (placeFrom (desk .turn) distance) distance asked bytes clock room r room′

@@ -1,10 +1,11 @@
 -- What a call that was not refused did to the desk, in the papers' sentences: for the laws that callers cite.
 -- Assumes nothing.
 use mathlib.Core.Path.{_≡_}
-use mathlib.Core.Bool.{true, false}
+use mathlib.Core.Bool.{true, false, cond}
 use mathlib.Core.List.{List}
 use mathlib.Core.Logic.{_≢_, _⊎_}
-use Prim.Native.Nat.{ℕ, _+_, _-_, _%_, _≤_, _<_}
+use Prim.Native.Nat.{ℕ, zero, suc, _+_, _-_, _%_, _≤_, _<_}
+use lib.Dec.{eqb}
 use Rattle.request.specs.declared.Request.{Request}
 use Rattle.telegram.specs.Read.{readFrame}
 use Rattle.telegram.specs.declared.Fields.{Fields}
@@ -32,6 +33,24 @@ pub record Given (desk : Desk) (asked : Request) (clock address : ℕ) (desk′ 
   pub stands : ticketOn desk′ address ≡ record { live = true; asked = asked; opened = clock; withdrawn = false; closed = 0 }
   pub others : (other : ℕ) → other ≢ address → ticketOn desk′ other ≡ ticketOn desk other
   pub turn-after : desk′ .turn ≡ (address - 161 + 1) % 95
+
+-- the address after one, "after 255 from 161 on", and so many after it
+abbrev pub oneUp : ℕ → ℕ
+oneUp address = cond (eqb address 255) 161 (address + 1)
+
+unfoldable pub stepsUp : ℕ → ℕ → ℕ
+stepsUp zero address = address
+stepsUp (suc k) address = oneUp (stepsUp k address)
+
+-- 02, #108: "how many addresses it considered: those from the turn up to and including the one given". So many steps up from the turn is the
+-- address given, which was free; each before it was open or resting at the call's clock.
+pub record Considered (desk : Desk) (clock address count : ℕ) : Type 0 where
+  pub steps : ℕ
+  pub counted : count ≡ steps + 1
+  pub at-most : count ≤ 95
+  pub last : address ≡ stepsUp steps (161 + desk .turn)
+  pub free : Free clock (ticketOn desk address)
+  pub passed : (k : ℕ) → k < steps → Open (ticketOn desk (stepsUp k (161 + desk .turn))) ⊎ Rests clock (ticketOn desk (stepsUp k (161 + desk .turn)))
 
 -- "closes the ticket": this one alone, with something left in its place, and the turn stays
 pub record ClosedAlone (desk : Desk) (address : ℕ) (left : Ticket) (desk′ : Desk) : Type 0 where

@@ -64,6 +64,9 @@ pub enum Seen {
 pub struct AfterOpen {
     pub desk: Desk,
     pub answer: Opening,
+    // how many addresses were considered, up to and including the one given: 0 where the request may
+    // not be sent, 95 where none is free, and without room up to the one that would have been given
+    pub count: u8,
 }
 
 pub struct AfterReply {
@@ -139,6 +142,7 @@ pub fn open(desk: Desk, asked: Request, data: &[u8], clock: u32, room: &mut [u8]
         request::Asking::Denied(fault) => AfterOpen {
             desk,
             answer: Opening::Refused(Fault::Denied(fault)),
+            count: 0,
         },
         request::Asking::Allowed => {
             open_at(desk, free_distance(desk, clock), asked, data, clock, room)
@@ -162,14 +166,17 @@ fn open_at(
         return AfterOpen {
             desk,
             answer: Opening::Refused(Fault::NoneFree),
+            count: 95,
         };
     }
     let place = ((desk.turn as u16 + distance as u16) % 95) as u8;
     let address = 161 + place;
+    let count = distance + 1;
     match telegram::write(asked.unit, address, asked.sort, asked.register, data, room) {
         telegram::Writing::Refused(_) => AfterOpen {
             desk,
             answer: Opening::Refused(Fault::NoRoom),
+            count,
         },
         telegram::Writing::Written(n) => AfterOpen {
             desk: with_ticket(
@@ -184,6 +191,7 @@ fn open_at(
                 },
             ),
             answer: Opening::Opened(address, n),
+            count,
         },
     }
 }

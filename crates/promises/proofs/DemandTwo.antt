@@ -53,6 +53,8 @@ pub use Rattle.desk.proofs.Laws.{fresh-is, fresh-opens, opened-given, request-w
 pub use Rattle.desk.proofs.Laws.{booked-right, cancelled-right, expired-right, unread-passed-up, under-hosts}
 pub use Rattle.desk.proofs.Laws.{given-plainly, books-plainly, closed-plainly, expired-plainly}
 pub use Rattle.desk.proofs.Laws.{look-open, look-withdrawn, look-nothing}
+-- 02, #108: how far an opening looked, and what its refusals say of that
+pub use Rattle.desk.proofs.Count.{opened-count, opened-considered, refused-count, no-room-considered, same-with-room, considered-plainly, one-up}
 pub use Rattle.ticket.proofs.Laws.{read-answered-by, write-answered-by, zero-carried-by, own-carried-by, other-carried-by}
 pub use Rattle.ticket.proofs.Laws.{tells-free, tells-due, age-after, age-set-back, set-back-due}
 pub use Rattle.ticket.proofs.Laws.{rests-under-1000, free-from-1000, rests-again, set-back-free}

@@ -177,7 +177,7 @@ any-order lab calls = (all-settled lab calls, all-keep lab calls)
 module _ (lab : Lab) where
   pub opens-allowed : (asked : Request) (bytes : List ℕ) (clock : ℕ) (room : List ℕ) (r : AfterOpen) (room′ : List ℕ)
       → Opens (lab .desk) asked bytes clock room r room′
-      → Allows lab (opens asked bytes clock room) (record { answer = answers.opening (r .answer); lab = record { desk = r .desk; benches = lab .benches }; room = room′ })
+      → Allows lab (opens asked bytes clock room) (record { answer = answers.opening (r .answer) (r .count); lab = record { desk = r .desk; benches = lab .benches }; room = room′ })
   unfolding Allows
   opens-allowed asked bytes clock room r room′ p = (r, p, refl, refl)
 
@@ -222,12 +222,12 @@ module _ (lab : Lab) where
   takes-allowed k frame room r room′ p = (r, p, refl, refl)
 
 -- the number that is told is the one that the call's own law is about: `open-exactly`, `reply-exactly` and so on
-pub told-as : ((a : Opening) → told (answers.opening a) ≡ openTold a)
+pub told-as : ((a : Opening) (count : ℕ) → told (answers.opening a count) ≡ openTold a)
     × ((a : Booking) → told (answers.booking a) ≡ bookTold a)
     × ((a : Closing) → told (answers.closing a) ≡ closeTold a)
     × ((a : Building) → told (answers.building a) ≡ buildTold a)
     × ((a : Taking) → told (answers.taking a) ≡ takeTold a)
-told-as = ((λ a. refl), (λ a. refl), (λ a. refl), (λ a. refl), (λ a. refl))
+told-as = ((λ a count. refl), (λ a. refl), (λ a. refl), (λ a. refl), (λ a. refl))
 
 -- a refusal keeps, said out: the lab and the lent buffer
 pub refused-keeps : (lab : Lab) (call : Call) (calls : List Call) (o : Outcome) (later : List Outcome) → AllKeep lab (call ∷ calls) (o ∷ later)

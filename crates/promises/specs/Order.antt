@@ -56,7 +56,7 @@ lentTo (takes bench frame room) = room
 -- ---- what comes of a call: the answer, the lab and the lent buffer afterwards
 
 pub data Answer : Type 0 where
-  opening : Opening → Answer
+  opening : Opening → ℕ → Answer
   booking : Booking → Answer
   closing : Closing → Answer
   building : Building → Answer
@@ -64,7 +64,7 @@ pub data Answer : Type 0 where
 
 -- the number that an answer tells, or none
 abbrev pub told : Answer → Option ℕ
-told (opening a) = openTold a
+told (opening a count) = openTold a
 told (booking a) = bookTold a
 told (closing a) = closeTold a
 told (building a) = buildTold a
@@ -102,7 +102,7 @@ withMade lab (NotBuilt f) bench = lab
 
 unfoldable pub Allows : Lab → Call → Outcome → Type 0
 Allows lab (opens asked bytes clock room) =
-    Comes (Opens (lab .desk) asked bytes clock room) (λ (r : AfterOpen). opening (r .answer)) (λ r. withDesk lab (r .desk))
+    Comes (Opens (lab .desk) asked bytes clock room) (λ (r : AfterOpen). opening (r .answer) (r .count)) (λ r. withDesk lab (r .desk))
 Allows lab (replies frame room) =
     Comes (Replies (lab .desk) frame room) (λ (r : AfterReply). booking (r .answer)) (λ r. withDesk lab (r .desk))
 Allows lab (cancels job address clock) =

@@ -76,9 +76,10 @@ edge-registers = (refl, refl)
 -- ---- what a call of the box comes to, by its contract
 
 -- an outcome, part by part
-same : (s : AfterAsk) (m : List ℕ) (x : Asking) (y : FilterBox) (z : Desk) (w : List ℕ) → s .answer ≡ x → s .filters ≡ y → s .desk ≡ z → m ≡ w
-    → _≡_ {A = AfterAsk × List ℕ} (s, m) (record { answer = x; filters = y; desk = z }, w)
-same s m x y z w p q t u = rw (sym p, sym q, sym t, sym u) refl
+same : (s : AfterAsk) (m : List ℕ) (x : Asking) (y : FilterBox) (z : Desk) (k : ℕ) (w : List ℕ)
+    → s .answer ≡ x → s .filters ≡ y → s .desk ≡ z → s .count ≡ k → m ≡ w
+    → _≡_ {A = AfterAsk × List ℕ} (s, m) (record { answer = x; filters = y; desk = z; count = k }, w)
+same s m x y z k w p q t c u = rw (sym p, sym q, sym t, sym c, sym u) refl
 
 -- the desk's answer, where it was opened
 opened-at : (a : Opening) (address n : ℕ) → Opened address n ≡ fromDesk a → a ≡ OpenedAt address n
@@ -90,11 +91,16 @@ module _ (box : FilterBox) (next : Opening → FilterBox) (desk : Desk) (asked :
   -- where a ticket was opened, the box did not refuse, and the desk opened it, as it promises
   went : (own : Option Fault) → Asks own box next desk asked bytes clock room r room′ → (address n : ℕ) → r .answer ≡ Opened address n
       → (own ≡ none)
-      × ((o : AfterOpen) × Opens desk asked bytes clock room o room′ × (o .answer ≡ OpenedAt address n) × (r .desk ≡ o .desk) × (r .filters ≡ next (OpenedAt address n)))
+      × ((o : AfterOpen)
+      × Opens desk asked bytes clock room o room′
+      × (o .answer ≡ OpenedAt address n)
+      × (r .desk ≡ o .desk)
+      × (r .filters ≡ next (OpenedAt address n))
+      × (r .count ≡ o .count))
   went (some f) a address n e = let both : Opened address n ≡ Refused f = sym e ∙ a .0 .0 in clash (cc)
   went none a address n e =
       let opened = opened-at (a .0 .answer) address n (sym e ∙ a .2 .0) in
-      (refl, (a .0, a .1, opened, a .2 .2, a .2 .1 ∙ ap next opened))
+      (refl, (a .0, a .1, opened, a .2 .2, a .2 .1 ∙ ap next opened, a .2 .3))
 
   -- "a refusal changes no ticket [..] and no byte of a buffer we lent", and nothing of the box
   stays : (own : Option Fault) → ((f : _) → next (NotOpened f) ≡ box) → Asks own box next desk asked bytes clock room r room′ → (f : Fault) → r .answer ≡ Refused f
@@ -121,22 +127,23 @@ module _ (box : FilterBox) (next : Opening → FilterBox) (desk : Desk) (asked :
   asks-settled : (own : Option Fault) → Settled {A = AfterAsk × List ℕ} (λ o. Asks own box next desk asked bytes clock room (o .0) (o .1))
   asks-settled (some f) =
       record {
-        outcome = (record { answer = Refused f; filters = box; desk = desk }, room);
-        is-allowed = ((refl, refl, refl), refl);
-        only = λ p a. same (p .0) (p .1) (Refused f) box desk room (a .0 .0) (a .0 .1) (a .0 .2) (a .1);
+        outcome = (record { answer = Refused f; filters = box; desk = desk; count = 0 }, room);
+        is-allowed = ((refl, refl, refl, refl), refl);
+        only = λ p a. same (p .0) (p .1) (Refused f) box desk 0 room (a .0 .0) (a .0 .1) (a .0 .2) (a .0 .3) (a .1);
       }
   asks-settled none =
       let opens = opens-settled desk asked bytes clock room in
       let o : AfterOpen = opens .outcome .0 in
       record {
-        outcome = (record { answer = fromDesk (o .answer); filters = next (o .answer); desk = o .desk }, opens .outcome .1);
-        is-allowed = (o, opens .is-allowed, (refl, refl, refl));
+        outcome = (record { answer = fromDesk (o .answer); filters = next (o .answer); desk = o .desk; count = o .count }, opens .outcome .1);
+        is-allowed = (o, opens .is-allowed, (refl, refl, refl, refl));
         only = λ p a.
             let is = opens .only (a .0, p .1) (a .1) in
-            same (p .0) (p .1) (fromDesk (o .answer)) (next (o .answer)) (o .desk) (opens .outcome .1)
+            same (p .0) (p .1) (fromDesk (o .answer)) (next (o .answer)) (o .desk) (o .count) (opens .outcome .1)
             (a .2 .0 ∙ ap (λ (x : AfterOpen × List ℕ). fromDesk (x .0 .answer)) is)
             (a .2 .1 ∙ ap (λ (x : AfterOpen × List ℕ). next (x .0 .answer)) is)
             (a .2 .2 ∙ ap (λ (x : AfterOpen × List ℕ). x .0 .desk) is)
+            (a .2 .3 ∙ ap (λ (x : AfterOpen × List ℕ). x .0 .count) is)
             (ap (λ (x : AfterOpen × List ℕ). x .1) is);
       }
 
@@ -182,7 +189,8 @@ module _ (box : FilterBox) (desk : Desk) (wait clock : ℕ) (room : List ℕ) (r
       (tenths % 256 ∷ tenths / 256 % 256 ∷ []) clock room o room′
       × (o .answer ≡ OpenedAt address n)
       × (r .desk ≡ o .desk)
-      × (r .filters ≡ record { job = box .job; unit = box .unit; short = box .short; long = box .long; out = out.Edge address pass tenths }))
+      × (r .filters ≡ record { job = box .job; unit = box .unit; short = box .short; long = box .long; out = out.Edge address pass tenths })
+      × (r .count ≡ o .count))
   unfolding bytesOf
   set-opened pass tenths a =
       went box (nowOut box pass tenths) desk (request box 5 (edgeRegister pass) wait) (bytesOf 2 tenths) clock room r room′ (edgeRefusal box pass tenths) a
@@ -195,7 +203,8 @@ module _ (box : FilterBox) (desk : Desk) (wait clock : ℕ) (room : List ℕ) (r
       (permille % 256 ∷ permille / 256 % 256 ∷ []) clock room o room′
       × (o .answer ≡ OpenedAt address n)
       × (r .desk ≡ o .desk)
-      × (r .filters ≡ box))
+      × (r .filters ≡ box)
+      × (r .count ≡ o .count))
   unfolding bytesOf
   attenuate-opened permille a =
       went box (λ o. box) desk (request box 5 attenuationRegister wait) (bytesOf 2 permille) clock room r room′ (attenuationRefusal permille) a
@@ -206,6 +215,7 @@ module _ (box : FilterBox) (desk : Desk) (wait clock : ℕ) (room : List ℕ) (r
       × (o .answer ≡ OpenedAt address n)
       × (r .desk ≡ o .desk)
       × (r .filters ≡ box)
+      × (r .count ≡ o .count)
   monitor-opened a address n e = went box (λ o. box) desk (request box 4 19 wait) [] clock room r room′ none a address n e .1
 
   pub status-opened : ReadsStatus box desk wait clock room r room′ → (address n : ℕ) → r .answer ≡ Opened address n
@@ -214,6 +224,7 @@ module _ (box : FilterBox) (desk : Desk) (wait clock : ℕ) (room : List ℕ) (r
       × (o .answer ≡ OpenedAt address n)
       × (r .desk ≡ o .desk)
       × (r .filters ≡ box)
+      × (r .count ≡ o .count)
   status-opened a address n e = went box (λ o. box) desk (request box 4 102 wait) [] clock room r room′ none a address n e .1
 
   -- "It returns its number only, and every buffer, ticket and register and the desk's turn are as before", and so is the box
@@ -284,9 +295,9 @@ attenuate-refused box desk permille wait clock room r room′ a over-it =
 
 -- and the desk's
 module _ (box : FilterBox) (desk : Desk) (wait clock : ℕ) (room : List ℕ) (r : AfterAsk) (room′ : List ℕ) (f : DeskFault) (is : r .answer ≡ Refused (AtDesk f)) where
-  -- the desk refused that request so
+  -- the desk refused that request so, and its count is passed up
   abbrev DeskRefused : Request → List ℕ → Type 0
-  DeskRefused asked bytes = (o : AfterOpen) × Opens desk asked bytes clock room o room′ × (o .answer ≡ NotOpened f)
+  DeskRefused asked bytes = (o : AfterOpen) × Opens desk asked bytes clock room o room′ × (o .answer ≡ NotOpened f) × (r .count ≡ o .count)
 
   passed-up : (next : Opening → FilterBox) (asked : Request) (bytes : List ℕ) (own : Option Fault) → (own ≡ some (AtDesk f) → ⊥)
       → Asks own box next desk asked bytes clock room r room′ → DeskRefused asked bytes
@@ -294,7 +305,7 @@ module _ (box : FilterBox) (desk : Desk) (wait clock : ℕ) (room : List ℕ) (r
     where
       same-refusal : Refused g ≡ Refused (AtDesk f) → g ≡ AtDesk f
       same-refusal e = cc
-  passed-up next asked bytes none not-own a = (a .0, a .1, back (a .0 .answer) (sym (a .2 .0) ∙ is))
+  passed-up next asked bytes none not-own a = (a .0, a .1, back (a .0 .answer) (sym (a .2 .0) ∙ is), a .2 .3)
     where
       back : (o : Opening) → fromDesk o ≡ Refused (AtDesk f) → o ≡ NotOpened f
       back (OpenedAt address n) e = clash (cc)

@@ -37,13 +37,13 @@ abbrev pub nowOut : FilterBox → Pass → ℕ → Opening → FilterBox
 nowOut box pass tenths (OpenedAt address n) = withOut box (Edge address pass tenths)
 nowOut box pass tenths (NotOpened f) = box
 
--- refused by the box, "ahead of the desk's": nothing changes
+-- refused by the box, "ahead of the desk's": nothing changes, and no address was considered
 abbrev pub Stays : Fault → FilterBox → Desk → AfterAsk → Type 0
-Stays f box desk r = (r .answer ≡ Refused f) × (r .filters ≡ box) × (r .desk ≡ desk)
+Stays f box desk r = (r .answer ≡ Refused f) × (r .filters ≡ box) × (r .desk ≡ desk) × (r .count ≡ 0)
 
--- what the desk did, with the box as it is afterwards
+-- what the desk did, its count of 02, #108 too, with the box as it is afterwards
 abbrev pub Passes : FilterBox → AfterOpen → AfterAsk → Type 0
-Passes box o r = (r .answer ≡ fromDesk (o .answer)) × (r .filters ≡ box) × (r .desk ≡ o .desk)
+Passes box o r = (r .answer ≡ fromDesk (o .answer)) × (r .filters ≡ box) × (r .desk ≡ o .desk) × (r .count ≡ o .count)
 
 -- a call of the box, by its own refusal: if there is none, the desk opens a ticket or refuses, as it promises, and the box goes by its answer
 abbrev pub Asks : Option Fault → FilterBox → (Opening → FilterBox) → Desk → Request → List ℕ → ℕ → List ℕ → AfterAsk → List ℕ → Type 0

@@ -70,6 +70,8 @@ pub struct AfterAsk {
     pub filters: FilterBox,
     pub desk: Desk,
     pub answer: Asking,
+    // how many addresses the desk considered; 0 where the box refused and it was not asked
+    pub count: u8,
 }
 
 // The registers.
@@ -284,11 +286,13 @@ fn passed_on(filters: FilterBox, after: AfterOpen) -> AfterAsk
             filters,
             desk,
             answer: Asking::Opened(address, n),
+            count: after.count,
         },
         Opening::Refused(fault) => AfterAsk {
             filters,
             desk,
             answer: Asking::Refused(Fault::AtDesk(fault)),
+            count: after.count,
         },
     }
 }
@@ -301,6 +305,7 @@ fn refused(filters: FilterBox, desk: Desk, fault: Fault) -> AfterAsk
         filters,
         desk,
         answer: Asking::Refused(fault),
+        count: 0,
     }
 }
 

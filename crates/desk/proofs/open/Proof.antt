@@ -23,7 +23,7 @@ open-at-requires c κs = allowed-writable _ _ (asked-allowed _ (sym (c .before .
 returns : tie.Need-returns
 returns c =
     let s = c .before .before .before .before .before .before in
-    rw (open-denied (s .args .desk) (s .args .asked) _ _ _ _ (asked-denied _ _ (sym (c .before .fault .given .1) ∙ c .before .before .before .judge .ensures))) (refl, refl, refl)
+    rw (open-denied (s .args .desk) (s .args .asked) _ _ _ _ (asked-denied _ _ (sym (c .before .fault .given .1) ∙ c .before .before .before .judge .ensures))) (refl, refl, refl, refl)
 
 same-length : tie.Need-same-length
 same-length c = search needs

@@ -6,7 +6,7 @@ use Rattle.desk.proofs.Calls.{opened-at, no-room-at}
 use Rattle.desk.proofs.open_at.Tie as tie
 
 returns : tie.Need-returns
-returns c = simp (le-leb _ _ (c .if1 .taken)) (refl, refl, refl)
+returns c = simp (le-leb _ _ (c .if1 .taken)) (refl, refl, refl, refl)
 
 cast-place : tie.Need-cast-place
 cast-place c = search needs
@@ -19,6 +19,9 @@ cast-place-2 c = search needs
 
 add-address : tie.Need-add-address
 add-address c = search needs
+
+add-count : tie.Need-add-count
+add-count c = search needs
 
 write-requires : tie.Need-write-requires
 write-requires c κs = search needs
@@ -63,6 +66,7 @@ open-at-spec =
     add-place
     cast-place-2
     add-address
+    add-count
     write-requires
     enum-told
     enum-known-n
