@@ -105,6 +105,12 @@ pub fn refused_at(out: &mut [u8], n: u8, place: usize) -> usize {
     at
 }
 
+// A refusal with the count of addresses that comes with those of opening.
+pub fn refused_count(out: &mut [u8], n: u8, count: u8) -> usize {
+    let at = refused(out, n);
+    field(out, at, b" count=", count as u64)
+}
+
 pub fn bad_line(out: &mut [u8]) -> usize {
     text(out, 0, b"bad line")
 }

@@ -127,7 +127,7 @@ fn open_now(d: Desk, ask: Ask, data: &[u8], times: Times, room: &mut [u8], out: 
     asked.wait = times.wait;
     let after = desk::open(d, asked, data, times.clock, room);
     let answer = after.answer;
-    let at = opened(answer, out);
+    let at = opened(answer, after.count, out);
     let next = after.desk;
     Told {
         desk: next,
@@ -136,14 +136,14 @@ fn open_now(d: Desk, ask: Ask, data: &[u8], times: Times, room: &mut [u8], out: 
     }
 }
 
-fn opened(answer: Opening, out: &mut [u8]) -> usize {
+fn opened(answer: Opening, count: u8, out: &mut [u8]) -> usize {
     match answer {
-        Opening::Refused(fault) => answers::refused(out, desk::number(fault)),
-        Opening::Opened(address, n) => {
-            let a = answers::ok(out);
-            let b = answers::field(out, a, b" address=", address as u64);
-            answers::field(out, b, b" n=", n as u64)
-        }
+        Opening::Refused(fault) => answers::refused_count(out, desk::number(fault), count),
+        Opening::Opened(address, n) => answers::form(
+            out,
+            b"ok address=# n=# count=#",
+            &[address as u64, n as u64, count as u64],
+        ),
     }
 }
 

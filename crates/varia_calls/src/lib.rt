@@ -5,6 +5,7 @@ use desk::Desk;
 use varia::AfterAsk;
 use varia::Asking;
 use varia::Edge;
+use varia::Fault;
 use varia::FilterBox;
 use varia::Out;
 use varia::Pass;
@@ -191,7 +192,7 @@ fn wanted_of(
 // The answer to a request, with the whole buffer.
 fn asked(after: AfterAsk, room: &[u8], out: &mut [u8]) -> Filtered {
     let answer = after.answer;
-    let at = opened(answer, out);
+    let at = opened(answer, after.count, out);
     let desk = after.desk;
     let filters = after.filters;
     Filtered {
@@ -204,14 +205,22 @@ fn asked(after: AfterAsk, room: &[u8], out: &mut [u8]) -> Filtered {
     }
 }
 
-fn opened(answer: Asking, out: &mut [u8]) -> usize {
+fn opened(answer: Asking, count: u8, out: &mut [u8]) -> usize {
     match answer {
-        Asking::Refused(fault) => answers::refused(out, varia::number(fault)),
-        Asking::Opened(address, n) => {
-            let a = answers::ok(out);
-            let b = answers::field(out, a, b" address=", address as u64);
-            answers::field(out, b, b" n=", n as u64)
-        }
+        Asking::Refused(fault) => refused(fault, count, out),
+        Asking::Opened(address, n) => answers::form(
+            out,
+            b"ok address=# n=# count=#",
+            &[address as u64, n as u64, count as u64],
+        ),
+    }
+}
+
+// The desk's refusals come with its count, the box's own without one.
+fn refused(fault: Fault, count: u8, out: &mut [u8]) -> usize {
+    match fault {
+        Fault::AtDesk(at_desk) => answers::refused_count(out, desk::number(at_desk), count),
+        _ => answers::refused(out, varia::number(fault)),
     }
 }
 
