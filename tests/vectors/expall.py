@@ -1,147 +1,19 @@
 """expall.py calls | answers: the call lines of tests/vectors/expall_night.calls, and what each must answer. Which tickets
 expire and in which order, which entries stay, what rests then and what desk and box show stands here line by line, worked
 out by hand from the papers; nothing here follows a desk or a box. Only the bytes of telegrams are worked out, by long
-division."""
-import re
-import sys
+division, and how far it was from the turn to an address."""
+from functools import partial
 
-HOSTS = range(161, 256)
-WRAP = 2**32
-ROOM = 12  # bytes lent to an opening, where nothing else is said
-JOB, MODULE = 9, 16  # the box's
-ATT, SHORT, LONG, MONITOR, STATUS = 0x32, 0x33, 0x34, 0x13, 0x66
-ACK, READ, WRITE, DATAGRAM = 3, 4, 5, 8
-NAMES = {ATT: "att", SHORT: "short", LONG: "long", MONITOR: "monitor", STATUS: "status"}
+import wire
+from wire import ACK, ATT, HOSTS, JOB, LONG, MODULE, MONITOR, NAMES, ROOM, SHORT, STATUS, WRAP, WRITE
+from wire import bad, booked, box, cancelled, every, expired, fill, given, making, new, no_cancel, no_expiry, not_booked
+from wire import not_given, printed, say, script, shown
 
-
-def remainder(data):
-    rest = int.from_bytes(data, "big") << 16
-    while rest.bit_length() > 16:
-        rest ^= 0x11021 << (rest.bit_length() - 17)
-    return rest
-
-
-def telegram(dest, src, sort, register, data=b""):
-    message = bytes([dest, src, sort, register]) + data
-    message += remainder(message).to_bytes(2, "big")
-    return b"\r" + re.sub(rb"[\n\r\x5e]", lambda byte: bytes([94, byte[0][0] + 64]), message) + b"\n"
-
-
-assert telegram(15, 162, READ, 0x66).hex() == "0d0fa20466c7b60a"  # T1
-
-script = []  # a call and its answer
-
-
-def say(call, answer):
-    script.append((call, answer))
-
-
-def bad(*lines):
-    for line in lines:
-        say(line, "bad line")
-
-
-def lent(room, first=b""):
-    return (first.hex() + "ee" * (room - len(first))) or "-"
-
-
-def every(clock, room, expired=()):
-    """The call itself: these expire in this order, each an address of the job of its own number, or job and address; all
-    other entries of the list stay."""
-    entries = [f"{one}:{one}" if isinstance(one, int) else f"{one[0]}:{one[1]}" for one in expired]
-    stayed = ["."] * (room - len(entries))
-    assert len(entries) <= room
-    say(f"desk.expall {clock} {room}", f"ok n={len(entries)} list={','.join(entries + stayed) or '-'}")
-
-
-# ---- the desk's other calls
-
-
-def new():
-    say("desk.new", "ok")
-
-
-def given(address, clock, job=None, wait=60000, module=15, sort=READ, register=102, data=b""):
-    """An opening, by a job of the address' own number where no other is named: this address is given."""
-    frame = telegram(module, address, sort, register, data)
-    call = f"desk.open {job or address} {module} {sort} {register} {data.hex() or '-'} {wait} 0 {clock} {lent(ROOM)}"
-    say(call, f"ok address={address} n={len(frame)} buf={lent(ROOM, frame)}")
-
-
-def not_given(clock):
-    say(f"desk.open 1 15 4 102 - 60000 0 {clock} {lent(ROOM)}", f"no 15 buf={lent(ROOM)}")
-
-
-def fill(clock, wait=60000, short=()):
-    """A fresh desk whose 95 addresses are all given, each to the job of its number; those of `short` wait 100 ms only."""
-    new()
-    for address in HOSTS:
-        given(address, clock, wait=100 if address in short else wait)
-
-
-def cancelled(address, clock, job=None):
-    say(f"desk.cancel {job or address} {address} {clock}", f"ok job={job or address} address={address}")
-
-
-def no_cancel(address, clock, job=None):
-    say(f"desk.cancel {job or address} {address} {clock}", "no 21")
-
-
-def expired(address, clock, job=None):
-    say(f"desk.expire {clock}", f"ok job={job or address} address={address}")
-
-
-def no_expiry(clock):
-    say(f"desk.expire {clock}", "no 22")
-
-
-def booked(address, job=None, module=15, sort=DATAGRAM, register=102, data=b"\x34\x12"):
-    frame = telegram(address, module, sort, register, data)
-    said = f"ok job={job or address} address={address} type={sort} n={len(data)} buf={lent(4, data)}"
-    say(f"desk.reply {frame.hex()} {lent(4)}", said)
-
-
-def not_booked(number, address, source=15, sort=DATAGRAM, register=102, data=b"\x34\x12", room=4):
-    frame = telegram(address, source, sort, register, data)
-    say(f"desk.reply {frame.hex()} {lent(room)}", f"no {number} buf={lent(room)}")
-
-
-def shown(turn, tickets, closed):
-    """The desk: tickets as a list of (address, job, wait, opened) or as they are shown, closings of (address, clock)."""
-    each = [one if isinstance(one, str) else "{}:{}:15:4:102:{}:{}".format(*one) for one in tickets]
-    rests = [f"{address}:{clock}" for address, clock in closed]
-    say("desk.dump", f"ok turn={turn} tickets={','.join(each) or '-'} closed={','.join(rests) or '-'}")
-
-
-# ---- the box's calls
-
-
-def making():
-    say(f"varia.new {JOB} {MODULE}", "ok")
-
-
-def wish(register, value, clock, wait):
-    words = [f"varia.{NAMES[register]}", value, wait, clock, lent(ROOM)]
-    return " ".join(str(word) for word in words if word is not None)
-
-
-def asked(address, register, value=None, clock=0, wait=60000):
-    """The box asks, and this address is given."""
-    sort, data = (READ, b"") if value is None else (WRITE, value.to_bytes(2, "little"))
-    frame = telegram(MODULE, address, sort, register, data)
-    say(wish(register, value, clock, wait), f"ok address={address} n={len(frame)} buf={lent(ROOM, frame)}")
-
-
-def refused(number, register, value, clock):
-    say(wish(register, value, clock, 60000), f"no {number} buf={lent(ROOM)}")
+asked, refused = partial(wire.asked, room=ROOM), partial(wire.refused, room=ROOM)
 
 
 def acked(address, register):
     booked(address, JOB, MODULE, ACK, register, b"")
-
-
-def box(short="?", long="?", out="-"):
-    say("varia.dump", f"ok short={short} long={long} out={out}")
 
 
 # ---- before the first desk.new, and on a fresh desk: nothing is due
@@ -177,7 +49,7 @@ shown(161, OPEN, [])
 every(60000, 0)  # all are due, and there is no room
 every(WRAP - 1, 0)
 shown(161, OPEN, [])
-not_given(60000)
+not_given(15, 60000)
 
 # ---- all 95 due, 95 entries
 
@@ -188,8 +60,8 @@ for room in (0, 1, 94, 95, 96):
 no_expiry(60000)
 every(WRAP - 1, 95)  # at no clock
 shown(161, [], CLOSED)
-not_given(60000)  # all 95 rest
-not_given(60999)
+not_given(15, 60000)  # all 95 rest
+not_given(15, 60999)
 for address in HOSTS:
     not_booked(61, address)  # each was expired
 given(161, 61000)
@@ -253,11 +125,11 @@ fill(0)
 every(60000, 50, HOSTS[:50])  # 161 to 210
 every(60500, 50, HOSTS[50:])  # 211 to 255; five entries stay
 shown(161, [], [*((a, 60000) for a in range(161, 211)), *((a, 60500) for a in range(211, 256))])
-not_given(60999)
+not_given(15, 60999)
 for address in HOSTS[:50]:
     given(address, 61000)
-not_given(61000)
-not_given(61499)
+not_given(15, 61000)
+not_given(15, 61499)
 given(211, 61500)
 
 # ---- some due: what is not due stays, wherever it stands, and the lowest addresses come first
@@ -380,19 +252,19 @@ for room in (0, 1, 94, 95, 96):
     every(99, room)
 every(100, 94, HOSTS[:94])
 every(100, 95, [255])
-not_given(1099)
+not_given(15, 1099)
 given(161, 1100)
 # the wrap in the middle of the rest
 fill(WRAP - 300, wait=200)
 every(WRAP - 101, 95)
 every(WRAP - 6, 3, [161, 162, 163])
-not_given(WRAP - 1)  # age 5
-not_given(0)
-not_given(993)  # 999
+not_given(15, WRAP - 1)  # age 5
+not_given(15, 0)
+not_given(15, 993)  # 999
 given(161, 994)  # 1000
 given(162, 994)
 given(163, 994)
-not_given(994)
+not_given(15, 994)
 every(994, 95, range(164, 256))  # the three just opened stay
 # a clock set back past an opening makes it due
 new()
@@ -417,29 +289,29 @@ every(2**31, 2, [163])
 
 fill(0, short=(165, 170, 175))
 every(500, 2, [165, 170])  # 175 is due as well
-not_given(500)
+not_given(15, 500)
 not_booked(61, 165)
 not_booked(61, 170)
 every(700, 2, [175])
-not_given(1100)  # 1000 after all three were due
-not_given(1499)  # 165 and 170 at 999
+not_given(15, 1100)  # 1000 after all three were due
+not_given(15, 1499)  # 165 and 170 at 999
 given(165, 1500)  # 1000
 given(170, 1500)
-not_given(1500)  # 175 at 800
-not_given(1699)
+not_given(15, 1500)  # 175 at 800
+not_given(15, 1699)
 given(175, 1700)
-not_given(1700)
+not_given(15, 1700)
 # an opening at once passes them by
 fill(0, short=(162, 163))
 booked(165)
 every(100, 2, [162, 163])
 given(165, 100, job=7)  # 161 and 164 are open, 162 and 163 rest
-not_given(100)
+not_given(15, 100)
 booked(165, job=7)
 given(165, 1099)  # 162 and 163 at 999
 given(162, 1100)  # round from 166
 given(163, 1100)
-not_given(1100)
+not_given(15, 1100)
 new()
 given(161, 0, wait=100)
 given(162, 0, wait=100)
@@ -449,7 +321,7 @@ shown(164, [(163, 163, 60000, 100)], [(161, 100), (162, 100)])
 # a clock set back by one ends the rest
 fill(0, short=(200, 201))
 every(100, 2, [200, 201])
-not_given(100)
+not_given(15, 100)
 given(200, 99)
 given(201, 1101)
 # such a call at another clock, with nothing due, leaves the closing
@@ -472,7 +344,7 @@ for address in (161, 162):
     not_booked(6, address, room=1)
     not_booked(8, address, source=0)
     not_booked(9, address, sort=11)
-not_given(1099)
+not_given(15, 1099)
 not_booked(61, 161)
 given(161, 1100, job=8)
 not_booked(18, 161, source=16)
@@ -650,5 +522,4 @@ shown(162, [(161, 161, 100, 0)], [])
 every(100, 200, [161])
 shown(162, [], [(161, 100)])
 
-for call, answer in script:
-    print(call if sys.argv[1:] == ["calls"] else answer)
+printed()

@@ -1,7 +1,7 @@
 """place.py calls | answers: the call lines of tests/vectors/place_night.calls, and what each must answer: number 3 with
 the place of the first faulty 94, the start byte's being 0, through every call that reads a frame and in the receiver's
 lines. Each place and each number stands here beside its frame, counted by hand; nothing here looks for a 94."""
-import sys
+from wire import lent, printed, say
 
 LARGEST = 2**64 - 1
 
@@ -82,16 +82,6 @@ RIGHT = (
     ("0d 5e 4a 5e 4d 5e 9e 5e 9e 5e 9e 5e 9e 0a", 7),
 )
 
-script = []  # a call and its answer
-
-
-def say(call, answer):
-    script.append((call, answer))
-
-
-def lent(room):
-    return "ee" * room or "-"
-
 
 def hexed(frame):
     return frame.replace(" ", "")
@@ -130,7 +120,7 @@ def totals(ok, refused, dropped, open=None):
 # ---- the call scripts' example
 
 say("desk.new", "ok")
-say("desk.open 7 15 4 102 - 1000 3 0 000000000000000000000000", "ok address=161 n=8 buf=0d0fa104669ee60a00000000")
+say("desk.open 7 15 4 102 - 1000 3 0 000000000000000000000000", "ok address=161 n=8 count=1 buf=0d0fa104669ee60a00000000")
 say("desk.reply 0da10f08665e41965b0a 0000", "no 3 place=5 buf=0000")
 say("desk.cancel 7 161 40", "ok job=7 address=161")
 
@@ -144,7 +134,7 @@ say("desk.reply 0da10f08663412965b0a eeee", "no 61 buf=eeee")
 # ---- each call, on a desk and on a bench that stay as they are
 
 say("desk.new", "ok")
-say(f"desk.open 7 15 4 102 - 60000 0 0 {lent(12)}", "ok address=161 n=8 buf=0d0fa104669ee60aeeeeeeee")
+say(f"desk.open 7 15 4 102 - 60000 0 0 {lent(12)}", "ok address=161 n=8 count=1 buf=0d0fa104669ee60aeeeeeeee")
 say("bench.new 15", "ok")
 say("bench.add 102 3 7", "ok")
 say("bench.set 102 4660", "ok")
@@ -267,5 +257,4 @@ fed(("0da15e0a",), f"at {LARGEST - 5} refused 3 in 2")
 say("rx.feed 0d5e0a", "no 60 taken=0 lines=")
 totals(0, 1, 0)
 
-for call, answer in script:
-    print(call if sys.argv[1:] == ["calls"] else answer)
+printed()

@@ -2,17 +2,11 @@
 apart from the library: all bytes since `rx.new` are kept and joined, and each answer is looked up in one reading of them."""
 import itertools
 import re
-import sys
+
+from wire import bad, framed, printed, remainder, say, script
 
 LARGEST = 2**64 - 1
 LONGEST = (65536 - len("rx.feed ")) // 2  # bytes: no call line holds more
-
-
-def remainder(data):
-    rest = int.from_bytes(data, "big") << 16
-    while rest.bit_length() > 16:
-        rest ^= 0x11021 << (rest.bit_length() - 17)
-    return rest
 
 
 def judged(frame):
@@ -58,27 +52,22 @@ class Capture:
         return "ok text=" + "".join(line + r"\n" for line in lines if line.endswith("open")) + kinds + r"\n"
 
 
-script = []  # a call and its answer
 capture = Capture(0)
 
 
 def new(place=0):
     global capture
     capture = Capture(place)
-    script.append((f"rx.new {place}", "ok"))
+    say(f"rx.new {place}", "ok")
 
 
 def feed(*chunks):
     for chunk in chunks:
-        script.append((f"rx.feed {chunk.hex() or '-'}", capture.feed(chunk)))
+        say(f"rx.feed {chunk.hex() or '-'}", capture.feed(chunk))
 
 
 def end():
-    script.append(("rx.end", capture.end()))
-
-
-def bad(*lines):
-    script.extend((line, "bad line") for line in lines)
+    say("rx.end", capture.end())
 
 
 def night(*chunks, place=0):
@@ -99,10 +88,6 @@ def each(data):
 # ---- the telegrams
 
 SPECIAL = bytes([10, 13, 94])  # what is converted
-
-
-def framed(message):
-    return b"\r" + re.sub(rb"[\n\r\x5e]", lambda byte: bytes([94, byte[0][0] + 64]), message) + b"\n"
 
 
 def longest(head):
@@ -212,5 +197,4 @@ bad("rx.feed " + "0d" * (LONGEST + 1))
 feed(b"A" * (LONGEST - len(ACK) - 1) + b"\n" + ACK)
 end()
 
-for call, answer in script:
-    print(call if sys.argv[1:] == ["calls"] else answer)
+printed()

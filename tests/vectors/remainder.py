@@ -1,17 +1,6 @@
 """remainder.py calls | answers: the call lines of tests/vectors/remainder.calls, and what each must answer, worked out apart
-from the library: a byte string is one long binary number, and the remainder is found by taking the divisor away, highest
-term first, as long division on paper does."""
-import sys
-
-DIVISOR = (1 << 16) | (1 << 12) | (1 << 5) | 1  # x^16 + x^12 + x^5 + 1
-
-
-def remainder(data):
-    rest = int.from_bytes(data, "big") << 16
-    while rest.bit_length() > 16:
-        rest ^= DIVISOR << (rest.bit_length() - 17)
-    return rest
-
+from the library: by the long division that the other scripts seal their telegrams with as well."""
+from wire import printed, remainder, say
 
 # what the papers themselves say: T1 to T4, and that the messages of the manual's sections 2.2 to 2.4, whole, leave 0. The
 # script must agree with them before it may judge the library
@@ -38,4 +27,5 @@ strings = [bytes.fromhex(text) for text in KNOWN] + [bytes([byte]) for byte in r
 # and strings as long as a message, and far longer
 strings += [bytes([byte]) * count for byte in (0x00, 0xFF, 0x5E) for count in (240, 246, 247, 4094)]
 for data in strings:
-    print(f"rem {data.hex() or '-'}" if sys.argv[1:] == ["calls"] else f"ok rem={remainder(data)}")
+    say(f"rem {data.hex() or '-'}", f"ok rem={remainder(data)}")
+printed()

@@ -1,97 +1,9 @@
 """rests.py calls | answers: the call lines of tests/vectors/rests_night.calls, and what each must answer. Which address is
 given, which number is told and what the desk shows stands here line by line, worked out by hand from the papers; nothing
-here follows a desk. Only the bytes of telegrams are worked out, by long division."""
-import re
-import sys
-
-HOSTS = range(161, 256)
-WRAP = 2**32
-ROOM = 12  # bytes lent to an opening, where nothing else is said
-
-
-def remainder(data):
-    rest = int.from_bytes(data, "big") << 16
-    while rest.bit_length() > 16:
-        rest ^= 0x11021 << (rest.bit_length() - 17)
-    return rest
-
-
-def telegram(dest, src, sort, register, data=b""):
-    message = bytes([dest, src, sort, register]) + data
-    message += remainder(message).to_bytes(2, "big")
-    return b"\r" + re.sub(rb"[\n\r\x5e]", lambda byte: bytes([94, byte[0][0] + 64]), message) + b"\n"
-
-
-assert telegram(15, 162, 4, 0x66).hex() == "0d0fa20466c7b60a"  # T1
-
-script = []  # a call and its answer
-
-
-def say(call, answer):
-    script.append((call, answer))
-
-
-def new():
-    say("desk.new", "ok")
-
-
-def ask(clock, job, wait=60000, register=102, room=ROOM):
-    """A read of module 15: the call line of its opening."""
-    return f"desk.open {job} 15 4 {register} - {wait} 0 {clock} {'ee' * room or '-'}"
-
-
-def given(address, clock, job=None, wait=60000, register=102, room=ROOM):
-    """An opening, by a job of the address' own number where no other is named: this address is given."""
-    bytes_ = telegram(15, address, 4, register)
-    call = ask(clock, job or address, wait, register, room)
-    say(call, f"ok address={address} n={len(bytes_)} buf={bytes_.hex()}{'ee' * (room - len(bytes_))}")
-
-
-def not_given(number, clock, job=1, wait=60000, register=102, room=ROOM):
-    say(ask(clock, job, wait, register, room), f"no {number} buf={'ee' * room or '-'}")
-
-
-def fill(clock, wait=60000, short=()):
-    """A fresh desk whose 95 addresses are all given, each to the job of its number; those of `short` wait 100 ms only."""
-    new()
-    for address in HOSTS:
-        given(address, clock, wait=100 if address in short else wait)
-
-
-def cancelled(address, clock, job=None):
-    say(f"desk.cancel {job or address} {address} {clock}", f"ok job={job or address} address={address}")
-
-
-def no_cancel(address, clock, job=None):
-    say(f"desk.cancel {job or address} {address} {clock}", "no 21")
-
-
-def expired(address, clock, job=None):
-    say(f"desk.expire {clock}", f"ok job={job or address} address={address}")
-
-
-def no_expiry(clock):
-    say(f"desk.expire {clock}", "no 22")
-
-
-def booked(address, job=None, sort=8, register=102, data=b"\x34\x12"):
-    frame = telegram(address, 15, sort, register, data)
-    said = f"ok job={job or address} address={address} type={sort} n={len(data)} buf={(data + bytes([0xee] * 4))[:4].hex()}"
-    say(f"desk.reply {frame.hex()} eeeeeeee", said)
-
-
-def not_booked(number, address, source=15, sort=8, register=102, data=b"\x34\x12", room=4, frame=None):
-    """The number is one, or 3 with its place."""
-    frame = frame or telegram(address, source, sort, register, data)
-    say(f"desk.reply {frame.hex()} {'ee' * room or '-'}", f"no {number} buf={'ee' * room or '-'}")
-
-
-def shown(turn, tickets, closed):
-    """The desk: tickets as a list of (address, job, wait, opened), closings as a list of (address, clock)."""
-    each = ",".join(f"{address}:{job}:15:4:102:{wait}:{opened}" for address, job, wait, opened in tickets)
-    rests = ",".join(f"{address}:{clock}" for address, clock in closed)
-    say("desk.dump", f"ok turn={turn} tickets={each or '-'} closed={rests or '-'}")
-
+here follows a desk. Only the bytes of telegrams are worked out, by long division, and how far it was from the turn to an
+address."""
+from wire import HOSTS, WRAP, booked, cancelled, expired, fill, given, new, no_cancel, no_expiry, not_booked, not_given
+from wire import printed, say, shown, telegram
 
 # ---- before the first desk.new nothing has been closed
 
@@ -191,7 +103,7 @@ given(200, 904)  # 1000
 
 fill(0)
 cancelled(200, 5000)
-not_given(16, 6000, room=7)  # free at 6000, and 8 bytes are wanted
+not_given(16, 6000, would=200, room=7)  # free at 6000, and 8 bytes are wanted
 shown(161, [(a, a, 60000, 0) for a in HOSTS if a != 200], [(200, 5000)])
 not_given(15, 5500)  # the clock has gone round: age 500
 not_given(15, 5500, room=0)  # 15 goes before 16
@@ -277,9 +189,9 @@ register = next(r for r in range(256) if [len(telegram(15, a, 4, r)) for a in (1
 fill(0)
 cancelled(162, 0)
 cancelled(161, 1000)
-not_given(16, 1999, register=register, room=8)  # 161 is at 999, so 162 would be given
+not_given(16, 1999, would=162, register=register, room=8)  # 161 is at 999
 given(161, 2000, register=register, room=8)  # 1000
-not_given(16, 2000, register=register, room=8)
+not_given(16, 2000, would=162, register=register, room=8)
 given(162, 2000, register=register, room=9)
 
 # ---- 61 ahead of 18 to 20, behind 1 to 9, until the address is given again
@@ -314,7 +226,7 @@ for way in ("cancel", "expire"):
         given(address, 1099)  # 161 rests till the turn has come round
     not_given(15, 1099)
     not_booked(61, 161)
-    not_given(16, 1100, room=7)  # at the rest's end it is not given yet
+    not_given(16, 1100, would=161, room=7)  # at the rest's end it is not given yet
     not_booked(61, 161)
     given(161, 90000, job=8)  # long after
     not_booked(18, 161, source=16)
@@ -348,5 +260,4 @@ shown(162, [(161, 161, 60000, 0)], [])
 cancelled(161, WRAP - 1)
 shown(162, [], [(161, WRAP - 1)])
 
-for call, answer in script:
-    print(call if sys.argv[1:] == ["calls"] else answer)
+printed()

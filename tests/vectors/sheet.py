@@ -3,32 +3,17 @@ told stands here beside each list of settings and each sheet, worked out by hand
 or judges one. Only right sheets are put together, and a wrong one is such a sheet with bytes changed at places that stand
 here as well."""
 import itertools
-import sys
+
+from wire import bad, lent, printed, say, script
 
 LARGEST = 2**64 - 1
 WRAP = 2**32
 LINE = 65536  # bytes: no call line has more
 SIZES = {1: 1, 2: 1, 3: 2, 4: 2, 5: 4, 6: 4, 7: 8}
 
-script = []  # a call and its answer
-
-
-def say(call, answer):
-    assert len(call) <= LINE
-    script.append((call, answer))
-
-
-def bad(*lines):
-    for line in lines:
-        say(line, "bad line")
-
 
 def text(data):
     return data.hex() or "-"
-
-
-def lent(room, first=b""):
-    return first.hex() + "ee" * (room - len(first)) or "-"
 
 
 def little(number, width=4):
@@ -552,5 +537,5 @@ say("sheet.write 15:48:1:0:- -", "no 69 buf=-")  # `-` for no bytes, in a settin
 say("sheet.check -", "no 65")
 say("sheet.read - 0 -", "no 65 buf=-")
 
-for call, answer in script:
-    print(call if sys.argv[1:] == ["calls"] else answer)
+assert all(len(call) <= LINE for call, _ in script)
+printed()

@@ -1,97 +1,24 @@
 """varia.py calls | answers: the call lines of tests/vectors/varia_night.calls, and what each must answer. Which address is
 given, which number is told and what box, bench and desk show stands here line by line, worked out by hand from the papers;
-nothing here follows a box, a bench or a desk. Only the bytes of telegrams are worked out, by long division."""
+nothing here follows a box, a bench or a desk. Only the bytes of telegrams are worked out, by long division, and how far it
+was from the turn to an address."""
 import itertools
-import re
-import sys
+from functools import partial
 
-HOSTS = range(161, 256)
-WRAP = 2**32
+import wire
+from wire import ACK, ATT, BUSY, CHECK_ERROR, DATAGRAM, HOSTS, JOB, LONG, MODULE, MONITOR, NACK, READ, SHORT, STATUS, WRAP
+from wire import WRITE, asked as given, asking, bad, box, desk, lent, making, new, no_expiry, printed, refused, say, script
+from wire import telegram
+
 ROOM = 16  # bytes lent, where nothing else is said
-JOB, MODULE = 9, 16  # the box's, where nothing else is said: a VARIA with its switch at 0
-ATT, SHORT, LONG, MONITOR, STATUS = 0x32, 0x33, 0x34, 0x13, 0x66
-NACK, CHECK_ERROR, BUSY, ACK, READ, WRITE, DATAGRAM = 0, 1, 2, 3, 4, 5, 8
-NAMES = {ATT: "att", SHORT: "short", LONG: "long", MONITOR: "monitor", STATUS: "status"}
-
-
-def remainder(data):
-    rest = int.from_bytes(data, "big") << 16
-    while rest.bit_length() > 16:
-        rest ^= 0x11021 << (rest.bit_length() - 17)
-    return rest
-
-
-def telegram(dest, src, sort, register, data=b""):
-    message = bytes([dest, src, sort, register]) + data
-    message += remainder(message).to_bytes(2, "big")
-    return b"\r" + re.sub(rb"[\n\r\x5e]", lambda byte: bytes([94, byte[0][0] + 64]), message) + b"\n"
-
-
-def asking(module, address, register, value=None):
-    """The box's telegram: a write of the value, lowest byte first, or a read."""
-    if value is None:
-        return telegram(module, address, READ, register)
-    return telegram(module, address, WRITE, register, value.to_bytes(2, "little"))
-
-
-assert telegram(15, 162, READ, 0x66).hex() == "0d0fa20466c7b60a"  # T1
-assert asking(16, 163, SHORT, 6000).hex() == "0d10a305337017945e4d0a"  # the call scripts' example
-
-script = []  # a call and its answer
-
-
-def say(call, answer):
-    script.append((call, answer))
-
-
-def bad(*lines):
-    for line in lines:
-        say(line, "bad line")
-
-
-def lent(room, first=b""):
-    return (first.hex() + "ee" * (room - len(first))) or "-"
-
 
 # ---- the box's calls
 
 
-def new():
-    say("desk.new", "ok")
-
-
-def making(job=JOB, module=MODULE):
-    say(f"varia.new {job} {module}", "ok")
-
-
-def wish(register, value, clock, wait, room):
-    words = [f"varia.{NAMES[register]}", value, wait, clock, lent(room)]
-    return " ".join(str(word) for word in words if word is not None)
-
-
-def given(address, register, value=None, clock=0, wait=60000, room=ROOM, module=MODULE):
-    """The box asks, and this address is given. Hands the telegram over."""
-    frame = asking(module, address, register, value)
-    said = f"ok address={address} n={len(frame)} buf={lent(room, frame)}"
-    say(wish(register, value, clock, wait, room), said)
-    return frame
-
-
-def refused(number, register, value=None, clock=0, wait=60000, room=ROOM):
-    say(wish(register, value, clock, wait, room), f"no {number} buf={lent(room)}")
-
-
-def refused_all(number, clock=0, wait=60000, room=ROOM):
+def refused_all(number, clock=0, wait=60000, room=ROOM, would=None):
     """Each thing that can be asked for, at numbers that the box itself would take."""
-    refused(number, SHORT, 7000, clock, wait, room)
-    refused(number, LONG, 4000, clock, wait, room)
-    refused(number, ATT, 1000, clock, wait, room)
-    refused(number, MONITOR, None, clock, wait, room)
-    refused(number, STATUS, None, clock, wait, room)
-
-
-def box(short="?", long="?", out="-"):
-    say("varia.dump", f"ok short={short} long={long} out={out}")
+    for register, value in ((SHORT, 7000), (LONG, 4000), (ATT, 1000), (MONITOR, None), (STATUS, None)):
+        refused(number, register, value, clock, wait, room, would)
 
 
 def known(address, edge, value, clock=0):
@@ -105,41 +32,18 @@ def known(address, edge, value, clock=0):
 
 def other(address, clock=0, job=7, module=15, sort=READ, register=102, data=b"", wait=60000):
     """An opening that is not the box's."""
-    frame = telegram(module, address, sort, register, data)
-    said = f"ok address={address} n={len(frame)} buf={lent(ROOM, frame)}"
-    say(f"desk.open {job} {module} {sort} {register} {data.hex() or '-'} {wait} 0 {clock} {lent(ROOM)}", said)
+    wire.given(address, clock, job, wait, module, sort, register, data, ROOM)
 
 
-def booked(address, sort, register, data=b"", job=JOB, module=MODULE, room=4):
-    frame = telegram(address, module, sort, register, data)
-    said = f"ok job={job} address={address} type={sort} n={len(data)} buf={lent(room, data)}"
-    say(f"desk.reply {frame.hex()} {lent(room)}", said)
+def booked(address, sort, register, data=b"", job=JOB, module=MODULE):
+    wire.booked(address, job, module, sort, register, data)
 
 
 def not_booked(number, address, sort, register, data=b"", module=MODULE, room=4, frame=None):
-    """The number is one, or 3 with its place."""
-    frame = frame or telegram(address, module, sort, register, data)
-    say(f"desk.reply {frame.hex()} {lent(room)}", f"no {number} buf={lent(room)}")
+    wire.not_booked(number, address, module, sort, register, data, room, frame)
 
 
-def cancelled(address, clock, job=JOB):
-    say(f"desk.cancel {job} {address} {clock}", f"ok job={job} address={address}")
-
-
-def no_cancel(address, clock, job=JOB):
-    say(f"desk.cancel {job} {address} {clock}", "no 21")
-
-
-def expired(address, clock, job=JOB):
-    say(f"desk.expire {clock}", f"ok job={job} address={address}")
-
-
-def no_expiry(clock):
-    say(f"desk.expire {clock}", "no 22")
-
-
-def desk(turn, tickets="-", closed="-"):
-    say("desk.dump", f"ok turn={turn} tickets={tickets} closed={closed}")
+cancelled, no_cancel, expired = (partial(call, job=JOB) for call in (wire.cancelled, wire.no_cancel, wire.expired))
 
 
 # ---- the bench's calls
@@ -217,8 +121,8 @@ moving(4096, 1)
 box(out="163:short:6000")
 # the script must agree with the papers before it may judge the library
 assert [answer.replace("ee", "00") for _, answer in script[example:]] == [
-    "ok", "ok address=163 n=11 buf=0d10a305337017945e4d0a0000000000", "no 59 buf=00000000000000000000000000000000",
-    "no 62 buf=0000", "ok which=fresh two=3412", "ok which=kept two=3412", "no 64", "ok moving=1",
+    "ok", "ok address=163 n=11 count=1 buf=0d10a305337017945e4d0a0000000000",
+    "no 59 buf=00000000000000000000000000000000", "no 62 buf=0000", "ok which=fresh two=3412", "ok which=kept two=3412", "no 64", "ok moving=1",
     "ok short=? long=? out=163:short:6000",
 ]
 
@@ -450,7 +354,7 @@ for edge in (SHORT, LONG):
     given(166, STATUS)
     refused(62, ATT, 1001)
     refused(14, ATT, 1000, wait=0)
-    refused(16, MONITOR, room=7)
+    refused(16, MONITOR, room=7, would=167)
     box(7000, 4000, out)
     no_expiry(99)
     refused(59, SHORT, 6000, clock=99)
@@ -504,7 +408,7 @@ for job, module, wait, room, number in (
     (9, 16, 0, ROOM, 14), (9, 16, 60001, ROOM, 14), (9, 16, WRAP - 1, 0, 14), (9, 16, 60000, 0, 16), (9, 16, 60000, 7, 16),
 ):
     making(job, module)  # made whatever the desk will say
-    refused_all(number, wait=wait, room=room)
+    refused_all(number, wait=wait, room=room, would=161 if number == 16 else None)
     refused(62, ATT, 1001, wait=wait, room=room)  # the box's own goes ahead
     box()
     desk(161)
@@ -522,8 +426,8 @@ known(166, LONG, 5000)
 refused(63, SHORT, 5000, wait=0, room=0)
 refused(63, LONG, 6000, wait=60001)
 refused(14, SHORT, 5001, wait=0, room=0)
-refused(16, LONG, 5999, room=0)
-refused(16, SHORT, 7000, room=9)
+refused(16, LONG, 5999, room=0, would=167)
+refused(16, SHORT, 7000, room=9, would=167)
 box(6000, 5000)
 desk(167)
 known(167, SHORT, 7000)
@@ -534,16 +438,16 @@ box(7000, 5000)
 new()
 making()
 assert len(asking(16, 161, SHORT, 7000)) == len(asking(16, 162, LONG, 6999)) == 10
-refused(16, SHORT, 7000, room=9)
+refused(16, SHORT, 7000, room=9, would=161)
 box()
 given(161, SHORT, 7000, room=10)
 booked(161, ACK, SHORT)
-refused(16, LONG, 6999, room=9)
+refused(16, LONG, 6999, room=9, would=162)
 given(162, LONG, 6999, room=10)
 booked(162, ACK, LONG)
 for address, register in ((163, MONITOR), (164, STATUS)):
     needed = len(asking(16, address, register))
-    refused(16, register, room=needed - 1)
+    refused(16, register, room=needed - 1, would=address)
     given(address, register, room=needed)
 box(7000, 6999)
 # it depends on the address that would be given, here by a remainder byte that is converted
@@ -552,7 +456,7 @@ new()
 making()
 given(161, LONG, value, room=10)
 cancelled(161, 0)
-refused(16, LONG, value, room=10)
+refused(16, LONG, value, room=10, would=162)
 box()
 given(162, LONG, value, room=11)
 # bytes that are converted: the module's, the value's lowest and highest
@@ -560,7 +464,7 @@ new()
 for address, (module, value) in zip(HOSTS, itertools.product((10, 13, 94), (10, 13, 94, 0x0A00, 0x0D0A, 0x5E5E))):
     making(module=module)
     needed = len(asking(module, address, LONG, value))
-    refused(16, LONG, value, room=needed - 1)
+    refused(16, LONG, value, room=needed - 1, would=address)
     given(address, LONG, value, room=needed, module=module)
     booked(address, ACK, LONG, module=module)
     box("?", value)
@@ -803,5 +707,4 @@ bad("varia.moving 65536", "varia.moving -1", "varia.moving -", "varia.moving 0 0
 box(out="161:short:1")
 desk(162, "161:9:16:5:51:60000:0")
 
-for call, answer in script:
-    print(call if sys.argv[1:] == ["calls"] else answer)
+printed()
