@@ -3,7 +3,7 @@
 
 use crate::bench::{Bench, Register};
 use crate::catalogue;
-use crate::desk::{Desk, Request, Ticket};
+use crate::desk::{Desk, Opened, Request, Ticket};
 use crate::receiver::{Fed, Receiver};
 use crate::remainder::remainder;
 use crate::sheet::{self, Head, Setting};
@@ -405,12 +405,14 @@ fn ok(fields: String) -> String {
     }
 }
 
-/// `ok` and its fields, or `no` and its number, with its place where it has one.
+/// `ok` and its fields, or `no` and its number, with its place or its count where it has one.
 fn plain(result: Result<String, impl Into<Refusal>>) -> String {
     match result.map_err(Into::into) {
         Ok(fields) => ok(fields),
-        Err(Refusal { no, place: None }) => format!("no {no}"),
-        Err(Refusal { no, place: Some(place) }) => format!("no {no} place={place}"),
+        Err(Refusal { no, place, count }) => {
+            let told = |name: &str, number: Option<usize>| number.map_or(String::new(), |it| format!(" {name}={it}"));
+            format!("no {no}{}{}", told("place", place), told("count", count))
+        }
     }
 }
 
@@ -458,8 +460,8 @@ fn catalogue_fields(entry: catalogue::Entry) -> String {
 }
 
 /// The fields of an opened ticket, and its telegram for the buffer.
-fn open_fields((address, telegram): (u8, Vec<u8>)) -> (String, Vec<u8>) {
-    (format!("address={address} n={}", telegram.len()), telegram)
+fn open_fields(Opened { address, telegram, count }: Opened) -> (String, Vec<u8>) {
+    (format!("address={address} n={} count={count}", telegram.len()), telegram)
 }
 
 /// The fields of a booked reply, and its data for the buffer.

@@ -142,7 +142,7 @@ fn exchange(line: &mut Line) -> Vec<u8> {
     line.clock = line.clock.wrapping_add(EXCHANGE);
     let request = request(&mut line.random, line.rigs[rig].address, line.clock);
     let (address, mut traffic) = match line.desk.open(&request, usize::MAX) {
-        Ok(opened) => opened,
+        Ok(opened) => (opened.address, opened.telegram),
         Err(_) => return Vec::new(),
     };
     let reply = line.rigs[rig].tele(&traffic, usize::MAX).unwrap_or_default();

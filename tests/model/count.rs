@@ -3,8 +3,9 @@
 use crate::calls::lines;
 use crate::dues::Dues;
 use crate::filters::Filters;
+use crate::looks::Looks;
 use crate::places::Places;
-use crate::rests::Rests;
+use crate::rests::{opens, Rests};
 use crate::sheets::Sheets;
 use crate::telegram::No;
 use std::collections::BTreeMap;
@@ -69,19 +70,25 @@ fn name(line: &[u8]) -> &'static str {
     ORDERS.iter().map(|(name, _)| *name).find(|name| name.as_bytes() == first).unwrap_or(NO_CALL)
 }
 
-/// The way an answer line answers. Number 3 has a place, and no other number has one.
-fn way(answer: &[u8]) -> Way {
+/// The way an answer line answers a call of this name. Number 3 has a place, and no other number has one. An opening
+/// has a count, and so have its numbers 10 to 16, but no other number.
+fn way(name: &str, answer: &[u8]) -> Way {
     let text = String::from_utf8_lossy(answer);
     let words: Vec<&str> = text.split(' ').collect();
-    match words[..] {
+    let has = |field: &str| words.iter().any(|word| word.starts_with(field));
+    let way = match words[..] {
         ["bad", "line"] => Way::BadLine,
         ["no", "bench"] => Way::NoBench,
         ["no", "box"] => Way::NoBox,
         ["ok", ..] => Way::Ok,
-        ["no", number, ..] if (number == "3") == words.iter().any(|word| word.starts_with("place=")) => {
-            number.parse().map_or(Way::Unknown, Way::No)
-        }
+        ["no", number, ..] => number.parse().map_or(Way::Unknown, Way::No),
         _ => Way::Unknown,
+    };
+    match way {
+        Way::Ok if opens(name) && !has("count=") => Way::Unknown,
+        Way::No(no) if has("place=") != (no == 3) => Way::Unknown,
+        Way::No(no) if has("count=") != (opens(name) && (10..=16).contains(&no)) => Way::Unknown,
+        way => way,
     }
 }
 
@@ -90,7 +97,8 @@ pub fn count(script: &[u8], answers: &[u8]) -> (String, bool) {
     let (calls, answers) = (lines(script), lines(answers));
     let mut counts = Counts::new();
     for (call, answer) in calls.iter().zip(&answers) {
-        *counts.entry((name(call), way(answer))).or_default() += 1;
+        let name = name(call);
+        *counts.entry((name, way(name, answer))).or_default() += 1;
     }
     let mut complaints: Vec<String> = ORDERS.iter().flat_map(|(name, order)| missing(&counts, name, order)).collect();
     complaints
@@ -108,11 +116,13 @@ pub fn count(script: &[u8], answers: &[u8]) -> (String, bool) {
     complaints.extend(sheets.missing());
     let dues = Dues::of(&calls, &answers);
     complaints.extend(dues.missing());
+    let looks = Looks::of(&calls, &answers);
+    complaints.extend(looks.missing());
     if calls.len() != answers.len() {
         complaints.push(format!("{} calls but {} answers", calls.len(), answers.len()));
     }
     let told: String = complaints.iter().map(|line| format!("{line}\n")).collect();
-    let of_subjects = [rests.lines(), filters.lines(), places.lines(), sheets.lines(), dues.lines()];
+    let of_subjects = [rests.lines(), filters.lines(), places.lines(), sheets.lines(), dues.lines(), looks.lines()];
     (table(&counts) + &borders_line(over_borders) + &of_subjects.concat() + &told, complaints.is_empty())
 }
 

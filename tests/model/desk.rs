@@ -33,6 +33,14 @@ pub struct Ticket {
     pub opened: u32,
 }
 
+/// What an opening hands over: the address given, the telegram with it as source, and how many addresses were
+/// considered, those from the turn up to and including the one given.
+pub struct Opened {
+    pub address: u8,
+    pub telegram: Vec<u8>,
+    pub count: usize,
+}
+
 #[derive(Clone)]
 pub struct Desk {
     pub turn: u8,
@@ -45,6 +53,11 @@ pub struct Desk {
 /// How long ago a reading was, at this clock: the clock minus that reading, modulo 4294967296.
 pub fn age(clock: u32, then: u32) -> u32 {
     (i64::from(clock) - i64::from(then)).rem_euclid(4294967296) as u32
+}
+
+/// One of opening's numbers, with how many addresses were considered.
+fn counted(no: No, count: usize) -> Refusal {
+    Refusal { count: Some(count), ..no.into() }
 }
 
 impl Request {
@@ -112,13 +125,14 @@ impl Desk {
         self.closed.get(&address).map_or(false, |closing| age(clock, *closing) < REST)
     }
 
-    /// The first address that is neither open nor resting at this clock, from the turn upwards and after 255
-    /// from 161 on.
-    fn free_address(&self, clock: u32) -> Option<u8> {
-        let from_turn = self.turn..=LAST_HOST;
-        from_turn
-            .chain(FIRST_HOST..=LAST_HOST)
-            .find(|address| !self.tickets.contains_key(address) && !self.rests(*address, clock))
+    /// The host addresses in the order they are considered in: from the turn upwards and after 255 from 161 on.
+    fn round(&self) -> Vec<u8> {
+        (self.turn..=LAST_HOST).chain(FIRST_HOST..self.turn).collect()
+    }
+
+    /// Whether an address may be given at this clock: it is neither open nor resting.
+    fn is_free(&self, address: u8, clock: u32) -> bool {
+        !self.tickets.contains_key(&address) && !self.rests(address, clock)
     }
 
     /// Closes the ticket on an address without a reply: the address rests from this clock on.
@@ -127,16 +141,20 @@ impl Desk {
         self.closed.insert(address, clock);
     }
 
-    /// Opens a ticket and answers its address and the telegram, for a buffer with this room: 10 to 16.
-    pub fn open(&mut self, request: &Request, room: usize) -> Result<(u8, Vec<u8>), No> {
-        request.check()?;
-        let address = self.free_address(request.clock).ok_or(15u32)?;
+    /// Opens a ticket for a buffer with this room: 10 to 16, each with the count of addresses that were considered: none
+    /// of them for a wrong request, all where none is free, and with 16 those up to the one that would have been given.
+    pub fn open(&mut self, request: &Request, room: usize) -> Result<Opened, Refusal> {
+        request.check().map_err(|no| counted(no, 0))?;
+        let round = self.round();
+        let free = round.iter().position(|address| self.is_free(*address, request.clock));
+        let place = free.ok_or(counted(15, round.len()))?;
+        let (address, count) = (round[place], place + 1);
         let telegram = request.message(address).telegram();
-        lowest(&[(16, telegram.len() > room)])?;
+        lowest(&[(16, telegram.len() > room)]).map_err(|no| counted(no, count))?;
         self.tickets.insert(address, request.ticket());
         self.closed.remove(&address);
         self.turn = if address == LAST_HOST { FIRST_HOST } else { address + 1 };
-        Ok((address, telegram))
+        Ok(Opened { address, telegram, count })
     }
 
     /// Books a reply, with this room for its data: 1 to 9, 3 with its place, then 61 or 17, then 18 to 20. Answers

@@ -29,8 +29,8 @@ impl Fate {
                 let Message { dest, source, type_no, register, data } = read;
                 format!("at {place} ok {dest} {source} {type_no} {register} {}", data.len())
             }
-            Fate::Refused(Refusal { no, place: None }) => format!("at {place} refused {no}"),
-            Fate::Refused(Refusal { no, place: Some(wrong) }) => format!("at {place} refused {no} in {wrong}"),
+            Fate::Refused(Refusal { no, place: None, .. }) => format!("at {place} refused {no}"),
+            Fate::Refused(Refusal { no, place: Some(wrong), .. }) => format!("at {place} refused {no} in {wrong}"),
             Fate::Dropped => format!("at {place} dropped"),
             Fate::Open => format!("at {place} open"),
         }

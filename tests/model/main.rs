@@ -13,6 +13,7 @@ mod expiries;
 mod faults;
 mod filters;
 mod listing;
+mod looks;
 mod places;
 mod random;
 mod receiver;

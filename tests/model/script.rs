@@ -3,6 +3,7 @@
 mod bench_walk;
 mod desk_walk;
 mod expall_walk;
+mod look_walk;
 mod numbers;
 mod receiver_walk;
 mod rest_walk;
@@ -108,6 +109,10 @@ const EXPALL_ROUND: [Section; 6] = [
     expall_walk::mixed,
 ];
 
+/// The sections on how far an opening looks, after those on the call that expires everything due, with a generator of
+/// their own as well.
+const LOOK_ROUND: [Section; 3] = [look_walk::distances, look_walk::resting, look_walk::boxes];
+
 /// A rehearsal with a desk of any sort, to try the call on that expires everything due.
 pub fn crowded(seed: u64) -> Rehearsal {
     let mut script = Script::new(seed);
@@ -130,6 +135,7 @@ pub fn write(seed: u64, calls: usize) -> Vec<u8> {
     let mut place_random = Random::new(!seed.rotate_left(32) ^ 0x504C_4143_4500);
     let mut sheet_random = Random::new(seed.rotate_left(16) ^ 0x5348_4545_5400);
     let mut expall_random = Random::new(seed.rotate_left(48) ^ 0x4558_5041_4C4C);
+    let mut look_random = Random::new(seed.rotate_left(8) ^ 0x4C4F_4F4B_0000);
     while script.lines.len() < calls {
         script.round(ROUND);
         script.round_with(&mut receiver_random, RECEIVER_ROUND);
@@ -137,6 +143,7 @@ pub fn write(seed: u64, calls: usize) -> Vec<u8> {
         script.round_with(&mut place_random, PLACE_ROUND);
         script.round_with(&mut sheet_random, SHEET_ROUND);
         script.round_with(&mut expall_random, EXPALL_ROUND);
+        script.round_with(&mut look_random, LOOK_ROUND);
     }
     script.lines.truncate(calls);
     script.lines.iter().flat_map(|line| [line.as_slice(), b"\n"].concat()).collect()

@@ -5,18 +5,19 @@ use crate::remainder::remainder;
 /// A number from the table of what can't be done.
 pub type No = u32;
 
-/// What a call that reads a frame is refused with: the number, and with number 3 the place in the frame of the first
-/// faulty 94, the start byte's being 0. No other number has a place.
+/// What a call is refused with: the number; with number 3 the place in the frame of the first faulty 94, the start
+/// byte's being 0; and with opening's numbers how many addresses were considered. No other number has either.
 #[derive(Clone, Copy)]
 pub struct Refusal {
     pub no: No,
     pub place: Option<usize>,
+    pub count: Option<usize>,
 }
 
 impl From<No> for Refusal {
-    /// A number without a place.
+    /// A number alone.
     fn from(no: No) -> Refusal {
-        Refusal { no, place: None }
+        Refusal { no, place: None, count: None }
     }
 }
 
@@ -102,7 +103,7 @@ pub fn read(frame: &[u8], room: usize) -> Result<Message, Refusal> {
         (2, between(frame).iter().any(|byte| [START, END].contains(byte))),
         (3, !wrong.is_empty()),
     ]);
-    refused.map_err(|no| Refusal { no, place: wrong.iter().copied().min().filter(|_| no == 3) })?;
+    refused.map_err(|no| Refusal { place: wrong.iter().copied().min().filter(|_| no == 3), ..no.into() })?;
     let message = restored(between(frame));
     lowest(&[
         (4, message.len() < 6),

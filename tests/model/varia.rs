@@ -1,7 +1,7 @@
 //! The filter box: a VARIA's edges, attenuation and readings for the operators, above the desk.
 
-use crate::desk::{Desk, Request};
-use crate::telegram::{lowest, No};
+use crate::desk::{Desk, Opened, Request};
+use crate::telegram::{lowest, No, Refusal};
 
 /// The register of each thing the box asks for.
 const MONITOR: u8 = 0x13;
@@ -102,8 +102,8 @@ impl Varia {
         }
     }
 
-    /// Opens a ticket for a wish, with this room for the telegram: the box's numbers, then 10 to 16. Answers the
-    /// address and the telegram.
+    /// Opens a ticket for a wish, with this room for the telegram: the box's numbers, which have no count, then the
+    /// desk's 10 to 16.
     pub fn ask(
         &mut self,
         desk: &mut Desk,
@@ -111,13 +111,13 @@ impl Varia {
         wait: u32,
         clock: u32,
         room: usize,
-    ) -> Result<(u8, Vec<u8>), No> {
+    ) -> Result<Opened, Refusal> {
         self.check(wish)?;
-        let (address, telegram) = desk.open(&self.request(wish, wait, clock), room)?;
+        let opened = desk.open(&self.request(wish, wait, clock), room)?;
         if let Wish::Set(edge, value) = wish {
-            self.out = Some(Out { address, edge, value });
+            self.out = Some(Out { address: opened.address, edge, value });
         }
-        Ok((address, telegram))
+        Ok(opened)
     }
 
     /// Is told that the desk closed the ticket on an address. Only that of the edge request matters: an ack makes the

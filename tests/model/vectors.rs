@@ -30,7 +30,7 @@ bench.new 200
 const EXAMPLE_ANSWERS: &str = "\
 ok rem=51126
 no 1 buf=ffff
-ok address=161 n=8 buf=0d0fa104669ee60a00000000
+ok address=161 n=8 count=1 buf=0d0fa104669ee60a00000000
 ok turn=162 tickets=161:7:15:4:102:100:0 closed=-
 ok
 ok
@@ -51,11 +51,26 @@ desk.open 8 15 4 102 - 10 4 50 000000000000000000000000
 ";
 
 const LATE_ANSWERS: &str = "\
-ok address=161 n=8 buf=0d0fa104669ee60a00000000
+ok address=161 n=8 count=1 buf=0d0fa104669ee60a00000000
 ok job=7 address=161
 no 61 buf=0000
 ok turn=162 tickets=- closed=161:40
-ok address=162 n=8 buf=0d0fa20466c7b60a00000000
+ok address=162 n=8 count=1 buf=0d0fa20466c7b60a00000000
+";
+
+/// The part of the same example that is about how far an opening looked.
+const COUNT_CALLS: &str = "\
+desk.new
+desk.open 7 15 4 102 - 1000 3 0 000000000000000000000000
+desk.open 0 15 4 102 - 1000 3 0 -
+desk.open 8 15 4 102 - 1000 0 0 00
+";
+
+const COUNT_ANSWERS: &str = "\
+ok
+ok address=161 n=8 count=1 buf=0d0fa104669ee60a00000000
+no 10 count=0 buf=-
+no 16 count=1 buf=00
 ";
 
 /// The part of the same example that is about number 3's place.
@@ -66,7 +81,7 @@ desk.cancel 7 161 40
 ";
 
 const PLACE_ANSWERS: &str = "\
-ok address=161 n=8 buf=0d0fa104669ee60a00000000
+ok address=161 n=8 count=1 buf=0d0fa104669ee60a00000000
 no 3 place=5 buf=0000
 ok job=7 address=161
 ";
@@ -95,7 +110,7 @@ varia.dump
 
 const BOX_ANSWERS: &str = "\
 ok
-ok address=163 n=11 buf=0d10a305337017945e4d0a0000000000
+ok address=163 n=11 count=1 buf=0d10a305337017945e4d0a0000000000
 no 59 buf=00000000000000000000000000000000
 no 62 buf=0000
 ok which=fresh two=3412
@@ -151,6 +166,8 @@ pub fn report() -> (String, bool) {
         rests(),
         dues(),
         rests_of_dues(),
+        looks(),
+        looks_of_boxes(),
         filter_boxes(),
         filter_edges(),
         listings(),
@@ -210,7 +227,7 @@ fn table_facts() -> Vec<Check> {
         calls(
             "T11 due over the clock's wrap",
             "desk.open 1 15 4 102 - 100 0 4294967290 a1a2a3a4a5a6a7a8\ndesk.expire 93\ndesk.expire 94",
-            "ok address=161 n=8 buf=0d0fa104669ee60a\nno 22\nok job=1 address=161",
+            "ok address=161 n=8 count=1 buf=0d0fa104669ee60a\nno 22\nok job=1 address=161",
         ),
         Check { name: "T12 toggling 0401h with 0400h", got: toggled(), want: "0100".to_string() },
         remainder_is("the empty string has 0", "-", 0),
@@ -365,6 +382,73 @@ fn rests_of_dues() -> Vec<Check> {
     ]
 }
 
+/// How many addresses an opening considered: the call scripts' example, 0 with 10 to 14 on a full desk too, 95 with 15,
+/// the farthest address, over the turn's end, and past addresses that rest; with 16 the same as where it is given.
+fn looks() -> Vec<Check> {
+    let open = |clock: u32, room: usize| format!("desk.open 1 15 4 102 - 100 0 {clock} {}\n", "a1".repeat(room));
+    let book = |address: u8| {
+        let reply = Message { dest: address, source: 15, type_no: 8, register: 102, data: Vec::new() };
+        format!("desk.reply {} -\n", hex(&reply.telegram()))
+    };
+    let full = open(0, 20).repeat(95);
+    let last = |name, before: &str, call: &str, want: &str| {
+        let said = answers([&full, before, call].concat().as_bytes());
+        let got = said.lines().last().unwrap_or("").chars().take(want.len()).collect();
+        Check { name, got, want: want.to_string() }
+    };
+    let farther = [book(200), open(0, 20), book(161)].concat();
+    let resting = ["desk.cancel 1 161 5000\n".to_string(), book(162)].concat();
+    vec![
+        calls("the call scripts' example of a count", COUNT_CALLS, COUNT_ANSWERS),
+        last("the turn's own address", "desk.new\n", &open(0, 20), "ok address=161 n=8 count=1 "),
+        last("the 95th ticket", &("desk.new\n".to_string() + &full), "", "ok address=255 n=8 count=1 "),
+        last("no address at all", "", &open(0, 20), "no 15 count=95 "),
+        last("no address and no room", "", &open(0, 7), "no 15 count=95 "),
+        last("10 on a full desk", "", "desk.open 0 15 4 102 - 100 0 0 a1", "no 10 count=0 buf=a1"),
+        last("11 on a full desk", "", "desk.open 1 161 4 102 - 100 0 0 a1", "no 11 count=0 buf=a1"),
+        last("12 on a full desk", "", "desk.open 1 15 8 102 - 100 0 0 a1", "no 12 count=0 buf=a1"),
+        last("13 on a full desk", "", "desk.open 1 15 4 102 00 100 0 0 a1", "no 13 count=0 buf=a1"),
+        last("14 on a full desk", "", "desk.open 1 15 4 102 - 60001 0 0 a1", "no 14 count=0 buf=a1"),
+        last("the farthest address", &book(255), &open(0, 8), "ok address=255 n=8 count=95 "),
+        last("no room with the farthest", &book(255), &open(0, 7), "no 16 count=95 "),
+        last("the next to it", &book(254), &open(0, 8), "ok address=254 n=8 count=94 "),
+        last("past the turn's end", &farther, &open(0, 8), "ok address=161 n=8 count=56 "),
+        last("no room past the turn's end", &farther, &open(0, 7), "no 16 count=56 "),
+        last("past one that rests", &resting, &open(5999, 8), "ok address=162 n=8 count=2 "),
+        last("no room past one that rests", &resting, &open(5999, 7), "no 16 count=2 "),
+        last("one that has rested", &resting, &open(6000, 8), "ok address=161 n=8 count=1 "),
+        last("all resting", "desk.expall 100 95\n", &open(1099, 8), "no 15 count=95 "),
+        last("94 resting", &(book(255) + "desk.expall 100 95\n"), &open(1099, 8), "ok address=255 n=8 count=95 "),
+    ]
+}
+
+/// The count in the answers to the box's wishes, and none with the box's own numbers.
+fn looks_of_boxes() -> Vec<Check> {
+    let on_a_box = |name, before: &str, call: &str, want: &str| {
+        let said = answers(format!("varia.new 9 16\n{before}{call}").as_bytes());
+        let got = said.lines().last().unwrap_or("").chars().take(want.len()).collect();
+        Check { name, got, want: want.to_string() }
+    };
+    let room = "a1".repeat(20);
+    let ask = |words: &str| format!("varia.{words} 500 200 {room}\n");
+    let full = ask("status").repeat(95);
+    let resting = full.clone() + "desk.cancel 9 161 5000\ndesk.cancel 9 162 4000\n";
+    let far = full.clone() + "desk.cancel 9 255 4000\n";
+    let later = |words: &str| format!("varia.{words} 500 5500 {room}\n");
+    vec![
+        on_a_box("a wish's count", "", &ask("status"), "ok address=161 n=8 count=1 "),
+        on_a_box("a wish past one that rests", &resting, &later("short 6000"), "ok address=162 n=10 count=2 "),
+        on_a_box("a wish past 94 open ones", &far, &later("monitor"), "ok address=255 n=8 count=95 "),
+        on_a_box("a wish that has no room", &far, "varia.long 1 500 5500 a1", "no 16 count=95 buf=a1"),
+        on_a_box("a wish with no address", &full, &ask("att 1000"), "no 15 count=95 "),
+        on_a_box("a wish that waits for nothing", &full, "varia.monitor 0 200 a1", "no 14 count=0 buf=a1"),
+        on_a_box("a wish of job 0", "varia.new 0 16\n", &ask("status"), "no 10 count=0 "),
+        on_a_box("a wish of no module", "varia.new 9 161\n", &ask("status"), "no 11 count=0 "),
+        on_a_box("59 without a count", &ask("short 6000"), "varia.long 1 500 200 a1", "no 59 buf=a1"),
+        on_a_box("62 without a count", &full, "varia.att 1001 500 200 a1", "no 62 buf=a1"),
+    ]
+}
+
 /// The box's part of the call scripts' example, its limits on both sides, and what needs a box.
 fn filter_boxes() -> Vec<Check> {
     let on_a_box =
@@ -377,7 +461,7 @@ fn filter_boxes() -> Vec<Check> {
             &[LATE_CALLS, BOX_CALLS].concat(),
             &[LATE_ANSWERS, BOX_ANSWERS].concat(),
         ),
-        on_a_box("attenuation 1000", "varia.att 1000 1 0 a1", "no 16 buf=a1"),
+        on_a_box("attenuation 1000", "varia.att 1000 1 0 a1", "no 16 count=1 buf=a1"),
         on_a_box("attenuation 1001, ahead of the desk's", "varia.att 1001 0 0 a1", "no 62 buf=a1"),
         on_a_box("no display of three bytes", "varia.display 010203 010203", "no 64"),
         on_a_box("two bytes on both sides", "varia.display 0102 0304", "ok which=fresh two=0102"),
@@ -423,9 +507,9 @@ fn filter_edges() -> Vec<Check> {
         dumped("an expiry of everything too early", "desk.expall 699 95\n", "ok short=6000 long=? out=162:short:7000"),
         dumped("an ack of another register", &reply(162, 3, 52), "ok short=6000 long=? out=162:short:7000"),
         dumped("another job's cancel", "desk.cancel 8 162 300\n", "ok short=6000 long=? out=162:short:7000"),
-        last("equal edges", &ask("long", 6000), "no 63 "),
+        last("equal edges", &ask("long", 6000), "no 63 buf=a1"),
         last("edges one apart", &ask("long", 5999), "ok address=162 "),
-        last("59 ahead of 63", &(ask("short", 7000) + &ask("long", 6000)), "no 59 "),
+        last("59 ahead of 63", &(ask("short", 7000) + &ask("long", 6000)), "no 59 buf=a1"),
         last("an edge against itself", &ask("short", 1), "ok address=162 "),
     ]
 }
@@ -508,7 +592,7 @@ fn placed_calls() -> Vec<Check> {
         calls(
             "the ticket stays open",
             "desk.open 7 15 4 102 - 1000 3 0 a1a2a3a4a5a6a7a8\ndesk.reply 0da10f08665e41965b0a a1\ndesk.dump",
-            "ok address=161 n=8 buf=0d0fa104669ee60a\nno 3 place=5 buf=a1\n\
+            "ok address=161 n=8 count=1 buf=0d0fa104669ee60a\nno 3 place=5 buf=a1\n\
              ok turn=162 tickets=161:7:15:4:102:1000:0 closed=-",
         ),
     ]

@@ -221,7 +221,7 @@ impl<'a> Walk<'a> {
 
     /// The length of the telegram the desk would write, or of a short one where it would refuse.
     pub fn telegram_length(&self, request: &Request) -> usize {
-        self.desk().clone().open(request, usize::MAX).map_or(8, |(_, telegram)| telegram.len())
+        self.desk().clone().open(request, usize::MAX).map_or(8, |opened| opened.telegram.len())
     }
 
     /// Adds an opening with a buffer of that length.
@@ -256,6 +256,11 @@ impl<'a> Walk<'a> {
     /// An opening that is refused with one of the rows 10 to 14 or 16, with later faults by chance.
     pub fn any_refused_open(&mut self) {
         let row = self.random().pick(&[10, 11, 12, 13, 14, 16, 16]);
+        self.refused_open(row);
+    }
+
+    /// The same by this row.
+    pub fn refused_open(&mut self, row: No) {
         let mut request = self.request();
         let random = self.random();
         for no in (row..=14).filter(|no| *no == row || random.one_in(3)).collect::<Vec<No>>() {

@@ -234,7 +234,7 @@ pub fn late_answer(walk: &mut Walk, address: u8, old: &Ticket) {
 }
 
 /// Books a fitting reply on the ticket of this address, if it has one.
-fn book(walk: &mut Walk, address: u8) {
+pub fn book(walk: &mut Walk, address: u8) {
     if let Some(ticket) = walk.desk().tickets.get(&address).cloned() {
         let reply = walk.fitting_reply(address, &ticket);
         let room = enough(walk.random(), reply.data.len());

@@ -154,7 +154,7 @@ pub fn any_wish(walk: &mut Walk) -> Wish {
 }
 
 /// A wish of each sort; the box itself refuses none of them where no edge request is out and its edges are orderly.
-fn each_wish(walk: &mut Walk) -> [Wish; 5] {
+pub fn each_wish(walk: &mut Walk) -> [Wish; 5] {
     let random = walk.random();
     let (short, long) = (orderly(random, Edge::Short), orderly(random, Edge::Long));
     let attenuation = random.below(usize::from(MOST_ATTENUATION) + 1) as u16;

@@ -1,0 +1,221 @@
+//! What a script's calls and answers tell of how many addresses each opening considered: whether the count told is the
+//! right one, and which ways from the turn were met.
+
+use crate::desk::{age, FIRST_HOST, HOSTS, LAST_HOST, REST};
+use crate::dues::expired;
+use crate::rests::{field, opens, parsed};
+use std::collections::{BTreeMap, BTreeSet};
+
+/// What must have been met of an address that was given, and likewise of one that would have been, with 16.
+const FOUND: [&str; 12] = [
+    "1 on an empty desk",
+    "1 beside others",
+    "2",
+    "3 to 93",
+    "94",
+    "95",
+    "round past 255",
+    "past open ones",
+    "past resting ones",
+    "past both",
+    "94 open",
+    "94 resting",
+];
+/// What must have been met of a refusal that considers no address.
+const NONE: [&str; 3] = ["on an empty desk", "some free", "none free"];
+/// What must have been met of each call of the box's that opens.
+const BOX: [&str; 5] = ["1", "more", "16 with 1", "16 with more", "15"];
+/// What must have been met, under thirteen heads.
+const WANTED: [(&str, &[&str]); 13] = [
+    ("given", &FOUND),
+    ("16", &FOUND),
+    ("15", &["all open", "all resting", "open and resting"]),
+    ("10", &NONE),
+    ("11", &NONE),
+    ("12", &NONE),
+    ("13", &NONE),
+    ("14", &NONE),
+    ("varia.short", &BOX),
+    ("varia.long", &BOX),
+    ("varia.att", &BOX),
+    ("varia.monitor", &BOX),
+    ("varia.status", &BOX),
+];
+
+/// So many wrong counts are told; others go untold.
+const MOST_WRONG: usize = 5;
+
+/// The desk as its calls and answers tell it, how often each thing was met, and the counts that are wrong.
+pub struct Looks {
+    turn: u8,
+    open: BTreeSet<u8>,
+    /// The addresses whose last ticket was cancelled or expired, with the clock of that closing.
+    closed: BTreeMap<u8, u32>,
+    times: BTreeMap<(&'static str, &'static str), usize>,
+    wrong: Vec<String>,
+}
+
+impl Looks {
+    /// A fresh desk, nothing met.
+    fn new() -> Looks {
+        Looks {
+            turn: FIRST_HOST,
+            open: BTreeSet::new(),
+            closed: BTreeMap::new(),
+            times: BTreeMap::new(),
+            wrong: Vec::new(),
+        }
+    }
+
+    /// The openings of a whole script.
+    pub fn of(calls: &[&[u8]], answers: &[&[u8]]) -> Looks {
+        let mut looks = Looks::new();
+        for (call, answer) in calls.iter().zip(answers) {
+            looks.hear(&String::from_utf8_lossy(call), &String::from_utf8_lossy(answer));
+        }
+        looks
+    }
+
+    /// One line for each head, with how often each thing was met.
+    pub fn lines(&self) -> String {
+        let times = |head, thing| self.times.get(&(head, thing)).copied().unwrap_or(0);
+        let line = |(head, things): &(&'static str, &[&'static str])| {
+            let each: String = things.iter().map(|thing| format!("  {thing}:{}", times(*head, *thing))).collect();
+            format!("count, {head}{each}\n")
+        };
+        WANTED.iter().map(line).collect()
+    }
+
+    /// What should have been met and never was, and the counts that are wrong.
+    pub fn missing(&self) -> Vec<String> {
+        let all = WANTED.iter().flat_map(|(head, things)| things.iter().map(move |thing| (*head, *thing)));
+        let never = all.filter(|met| !self.times.contains_key(met));
+        let never = never.map(|(head, thing)| format!("count, {head}: {thing} never occurred"));
+        never.chain(self.wrong.iter().cloned()).collect()
+    }
+
+    /// Counts a thing where it was met, under the head and by the name it is wanted by; what is not wanted goes
+    /// uncounted.
+    fn count_if(&mut self, is_met: bool, head: &str, thing: &str) {
+        let found = WANTED.iter().find(|(wanted, _)| *wanted == head).and_then(|(head, things)| {
+            let thing = things.iter().find(|wanted| **wanted == thing)?;
+            Some((*head, *thing))
+        });
+        if let Some(met) = found.filter(|_| is_met) {
+            *self.times.entry(met).or_default() += 1;
+        }
+    }
+
+    /// Hears of a call and its answer; only calls on the desk, the box's too, have something to tell.
+    fn hear(&mut self, call: &str, answer: &str) {
+        if answer == "bad line" || answer == "no box" {
+            return;
+        }
+        let words: Vec<&str> = call.split(' ').collect();
+        match (&words[..], field(answer, "address=")) {
+            (["desk.new"], _) => {
+                let (times, wrong) = (std::mem::take(&mut self.times), std::mem::take(&mut self.wrong));
+                *self = Looks { times, wrong, ..Looks::new() };
+            }
+            ([name, .., clock, _], given) if opens(name) => self.asked(name, parsed(clock), given, answer),
+            (["desk.reply", ..], Some(address)) => {
+                self.open.remove(&address);
+            }
+            (["desk.cancel", _, _, clock] | ["desk.expire", clock], Some(address)) => {
+                self.close(address, parsed(clock))
+            }
+            (["desk.expall", clock, _], _) => {
+                expired(answer).into_iter().for_each(|address| self.close(address, parsed(clock)))
+            }
+            _ => (),
+        }
+    }
+
+    /// A ticket was cancelled or expired.
+    fn close(&mut self, address: u8, clock: u32) {
+        self.open.remove(&address);
+        self.closed.insert(address, clock);
+    }
+
+    /// The addresses from the turn on that are open or rest at this clock, up to the first that is free.
+    fn passed(&self, clock: u32) -> Vec<u8> {
+        let rests = |address: &u8| self.closed.get(address).map_or(false, |closing| age(clock, *closing) < REST);
+        let round = (self.turn..=LAST_HOST).chain(FIRST_HOST..self.turn);
+        round.take_while(|address| self.open.contains(address) || rests(address)).collect()
+    }
+
+    /// A ticket was asked for, and an address given or not.
+    fn asked(&mut self, name: &str, clock: u32, given: Option<u8>, answer: &str) {
+        let passed = self.passed(clock);
+        let no = answer.strip_prefix("no ").and_then(|rest| rest.split(' ').next());
+        let distance = |given: u8| (i32::from(given) - i32::from(self.turn)).rem_euclid(i32::from(HOSTS)) as u8;
+        let right = match (no, given) {
+            (None, Some(given)) => Some(distance(given) + 1),
+            (Some("10" | "11" | "12" | "13" | "14"), _) => Some(0),
+            (Some("15"), _) => Some(HOSTS),
+            (Some("16"), _) => Some(passed.len() as u8 + 1),
+            _ => None,
+        };
+        let told = field(answer, "count=");
+        if told != right && self.wrong.len() < MOST_WRONG {
+            self.wrong.push(format!("{name}: {} where {} is right must not occur", words(told), words(right)));
+        }
+        if let Some(count) = right {
+            self.met(name, no, count, &passed);
+        }
+        if let Some(given) = given {
+            self.open.insert(given);
+            self.closed.remove(&given);
+            self.turn = if given == LAST_HOST { FIRST_HOST } else { given + 1 };
+        }
+    }
+
+    /// Counts what there is to say of an opening with this count, these addresses passed over or none free.
+    fn met(&mut self, name: &str, no: Option<&str>, count: u8, passed: &[u8]) {
+        let open = passed.iter().filter(|address| self.open.contains(address)).count();
+        match no {
+            None | Some("16") => self.found(no.unwrap_or("given"), count, open, passed.len() - open),
+            Some("15") => {
+                let thing = match open {
+                    95 => "all open",
+                    0 => "all resting",
+                    _ => "open and resting",
+                };
+                self.count_if(true, "15", thing);
+            }
+            Some(no) => {
+                let is_none_free = passed.len() == usize::from(HOSTS);
+                self.count_if(self.is_empty(), no, "on an empty desk");
+                self.count_if(!self.is_empty() && !is_none_free, no, "some free");
+                self.count_if(is_none_free, no, "none free");
+            }
+        }
+        self.count_if(no.is_none(), name, if count == 1 { "1" } else { "more" });
+        self.count_if(no == Some("16"), name, if count == 1 { "16 with 1" } else { "16 with more" });
+        self.count_if(no == Some("15"), name, "15");
+    }
+
+    /// Whether no address has a ticket or had one that was cancelled or expired.
+    fn is_empty(&self) -> bool {
+        self.open.is_empty() && self.closed.is_empty()
+    }
+
+    /// An address was found, with so many open ones and so many resting ones passed over.
+    fn found(&mut self, head: &str, count: u8, open: usize, resting: usize) {
+        self.count_if(count == 1 && self.is_empty(), head, "1 on an empty desk");
+        self.count_if(count == 1 && !self.open.is_empty(), head, "1 beside others");
+        self.count_if((3..=93).contains(&count), head, "3 to 93");
+        self.count_if(true, head, &count.to_string());
+        self.count_if(count - 1 > LAST_HOST - self.turn, head, "round past 255");
+        self.count_if(open > 0 && resting == 0, head, "past open ones");
+        self.count_if(open == 0 && resting > 0, head, "past resting ones");
+        self.count_if(open > 0 && resting > 0, head, "past both");
+        self.count_if(self.open.len() == 94, head, "94 open");
+        self.count_if(resting == 94, head, "94 resting");
+    }
+}
+
+/// A count in words.
+fn words(count: Option<u8>) -> String {
+    count.map_or("no count".to_string(), |count| format!("count {count}"))
+}
