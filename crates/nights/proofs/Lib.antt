@@ -3,3 +3,4 @@ pub mod Fair
 pub mod Plainly
 pub mod Count
 pub mod Late
+pub mod Looked

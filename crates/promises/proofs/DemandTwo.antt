@@ -64,12 +64,15 @@ pub use Rattle.nights.proofs.Laws.{any-night, on-hosts-only, opens-after, repli
 pub use Rattle.nights.proofs.Laws.{opened-where-free, booked-where-fits, withdrawn-where-theirs}
 pub use Rattle.nights.proofs.Fair.{opened-gives, turn-fair, free-before-again}
 pub use Rattle.nights.proofs.Count.{clear-exactly, openings-between}
+-- and what an opening considered, after any calls
+pub use Rattle.nights.proofs.Looked.{turn-within-then, considered-then, no-room-considered-then}
 pub use Rattle.nights.proofs.Plainly.{among-plainly, each-plainly, passed-plainly, counted-one, counted-none, count-plainly, others-are, last-there, last-elsewhere}
 -- 02, #102: after a cancel or an expiry the address rests, and a late answer is told as one; both before the address is given again
 pub use Rattle.nights.proofs.Late.{kept-then, rested-before-again, late-refused, nothing-booked, late-exactly, no-ticket-exactly}
 -- ---- 02, #104: the filter box asks its module, through the desk, as its name says, and goes by what the desk answered
 pub use Rattle.varia.proofs.Laws.{edge-registers, set-telegram, attenuate-telegram, monitor-telegram, status-telegram}
 pub use Rattle.varia.proofs.Laws.{set-opened, attenuate-opened, monitor-opened, status-opened, edge-allowed}
+pub use Rattle.varia.proofs.Laws.{passed-count, set-own-count, attenuate-own-count}
 pub use Rattle.varia.proofs.Laws.{make-is, ack-sets, nack-keeps, giving-up-forgets, elsewhere-booked, elsewhere-given-up, reply-same-box, closing-same-box}
 pub use Rattle.varia.proofs.Laws.{refusals-tell-nothing, nothing-out-stays}
 pub use Rattle.varia.proofs.Laws.{display-fresh, display-kept, display-neither, moving-exactly}

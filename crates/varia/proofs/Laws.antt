@@ -18,8 +18,9 @@ use Rattle.lent.specs.Lent.{over}
 use Rattle.telegram.specs.Read.{Reads}
 use Rattle.telegram.specs.declared.Reading.{Reading}
 use Rattle.telegram.specs.declared.Reading.the-variants.{Telegram}
+use Rattle.desk.proofs.Count.{refused-count}
 use Rattle.desk.proofs.Laws.{opens-settled, open-refusal-keeps, request-reads-back}
-use Rattle.desk.specs.Open.{Opens}
+use Rattle.desk.specs.Open.{Opens, openTold, distanceOf}
 use Rattle.desk.specs.declared.AfterOpen.{AfterOpen}
 use Rattle.desk.specs.declared.Booking.{Booking}
 use Rattle.desk.specs.declared.Booking.the-variants.{Booked, Refused as NotBooked}
@@ -293,6 +294,30 @@ attenuate-refused box desk permille wait clock room r room′ a over-it =
     own-answer box (λ o. box) desk (request box 5 attenuationRegister wait) (bytesOf 2 permille) clock room r room′ (attenuationRefusal permille) a TooMuch
     (attenuation-refused permille over-it)
 
+-- 02, #108: the desk was not asked, so that 59, 62 and 63 come with no count
+own-count : (box : FilterBox) (next : Opening → FilterBox) (desk : Desk) (asked : Request) (bytes : List ℕ) (clock : ℕ) (room : List ℕ)
+    (r : AfterAsk) (room′ : List ℕ) (own : Option Fault) → Asks own box next desk asked bytes clock room r room′
+    → (f : Fault) → r .answer ≡ Refused f → ((g : DeskFault) → f ≡ AtDesk g → ⊥) → r .count ≡ 0
+own-count box next desk asked bytes clock room r room′ (some g) a f is apart = a .0 .3
+own-count box next desk asked bytes clock room r room′ none a f is apart = go (a .0 .answer) (sym (a .2 .0) ∙ is)
+  where
+    go : (o : Opening) → fromDesk o ≡ Refused f → r .count ≡ 0
+    go (OpenedAt address n) e = clash (cc)
+    go (NotOpened g) e = absurd (apart g (let same-fault : f ≡ AtDesk g = cc in same-fault))
+
+pub set-own-count : (box : FilterBox) (desk : Desk) (pass : Pass) (tenths wait clock : ℕ) (room : List ℕ) (r : AfterAsk) (room′ : List ℕ)
+    → SetsEdge pass box desk tenths wait clock room r room′
+    → (r .answer ≡ Refused EdgeOut → r .count ≡ 0) × (r .answer ≡ Refused OutOfOrder → r .count ≡ 0)
+set-own-count box desk pass tenths wait clock room r room′ a = (λ is. count EdgeOut is (λ g e. clash (cc)), λ is. count OutOfOrder is (λ g e. clash (cc)))
+  where
+    count : (f : Fault) → r .answer ≡ Refused f → ((g : DeskFault) → f ≡ AtDesk g → ⊥) → r .count ≡ 0
+    count = own-count box (nowOut box pass tenths) desk (request box 5 (edgeRegister pass) wait) (bytesOf 2 tenths) clock room r room′ (edgeRefusal box pass tenths) a
+
+pub attenuate-own-count : (box : FilterBox) (desk : Desk) (permille wait clock : ℕ) (room : List ℕ) (r : AfterAsk) (room′ : List ℕ)
+    → Attenuates box desk permille wait clock room r room′ → r .answer ≡ Refused TooMuch → r .count ≡ 0
+attenuate-own-count box desk permille wait clock room r room′ a is =
+    own-count box (λ o. box) desk (request box 5 attenuationRegister wait) (bytesOf 2 permille) clock room r room′ (attenuationRefusal permille) a TooMuch is (λ g e. clash (cc))
+
 -- and the desk's
 module _ (box : FilterBox) (desk : Desk) (wait clock : ℕ) (room : List ℕ) (r : AfterAsk) (room′ : List ℕ) (f : DeskFault) (is : r .answer ≡ Refused (AtDesk f)) where
   -- the desk refused that request so, and its count is passed up
@@ -340,6 +365,29 @@ module _ (box : FilterBox) (desk : Desk) (wait clock : ℕ) (room : List ℕ) (r
   pub status-passed-up : ReadsStatus box desk wait clock room r room′
       → DeskRefused (record { job = box .job; unit = box .unit; sort = 4; register = 102; wait = wait }) []
   status-passed-up a = passed-up (λ o. box) (request box 4 102 wait) [] none (λ e. clash (cc)) a
+
+  -- 02, #108: and so the count that comes with it, by the desk's number
+  by-number : (asked : Request) (bytes : List ℕ) → DeskRefused asked bytes → (n : ℕ) → deskNumber f ≡ n
+      → (n ≤ 14 → r .count ≡ 0) × (n ≡ 15 → r .count ≡ 95) × (n ≡ 16 → r .count ≡ distanceOf desk clock + 1)
+  by-number asked bytes d n e =
+      let told = refused-count desk asked bytes clock room (d .0) room′ (d .1) n (ap openTold (d .2) ∙ ap some e) in
+      (λ h. d .3 ∙ told .0 h, λ h. d .3 ∙ told .1 h, λ h. d .3 ∙ told .2 h)
+
+  pub passed-count : (n : ℕ) → deskNumber f ≡ n
+      → ((pass : Pass) (tenths : ℕ) → SetsEdge pass box desk tenths wait clock room r room′
+      → (n ≤ 14 → r .count ≡ 0) × (n ≡ 15 → r .count ≡ 95) × (n ≡ 16 → r .count ≡ distanceOf desk clock + 1))
+      × ((permille : ℕ) → Attenuates box desk permille wait clock room r room′
+      → (n ≤ 14 → r .count ≡ 0) × (n ≡ 15 → r .count ≡ 95) × (n ≡ 16 → r .count ≡ distanceOf desk clock + 1))
+      × (ReadsMonitor box desk wait clock room r room′
+      → (n ≤ 14 → r .count ≡ 0) × (n ≡ 15 → r .count ≡ 95) × (n ≡ 16 → r .count ≡ distanceOf desk clock + 1))
+      × (ReadsStatus box desk wait clock room r room′
+      → (n ≤ 14 → r .count ≡ 0) × (n ≡ 15 → r .count ≡ 95) × (n ≡ 16 → r .count ≡ distanceOf desk clock + 1))
+  passed-count n e = (
+    λ pass tenths a. by-number _ _ (set-passed-up pass tenths a) n e,
+    λ permille a. by-number _ _ (attenuate-passed-up permille a) n e,
+    λ a. by-number _ _ (monitor-passed-up a) n e,
+    λ a. by-number _ _ (status-passed-up a) n e,
+  )
 
 -- ---- what the box makes of the desk's answers
 
