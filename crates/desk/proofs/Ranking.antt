@@ -56,7 +56,7 @@ module _ (desk : Desk) (clock : ℕ) where
       → Open (ticketAt desk (placeFrom (desk .turn) k)) ⊎ Rests clock (ticketAt desk (placeFrom (desk .turn) k))
   search-passed k h = open-or-rests clock (ticketAt desk (placeFrom (desk .turn) k)) (search-ended desk clock .before k h)
 
-  decides-none-free : Decides (leb 95 (distanceOf desk clock)) (IsNoneFree desk clock)
+  pub decides-none-free : Decides (leb 95 (distanceOf desk clock)) (IsNoneFree desk clock)
   unfolding IsNoneFree
   decides-none-free = record { so = all; not-so = some-free }
     where

@@ -82,12 +82,12 @@ fn open(d: Desk, w: Words, line: &[u8], out: &mut [u8]) -> Told {
 }
 
 // Up to the data: job, module, type and register; the waiting time is still 0.
-struct Ask {
-    words: Words,
-    asked: Request,
+pub struct Ask {
+    pub words: Words,
+    pub asked: Request,
 }
 
-fn take_ask(w: Words, line: &[u8]) -> Ask {
+pub fn take_ask(w: Words, line: &[u8]) -> Ask {
     let a = words::number(w, line, MOST);
     let b = words::number(a, line, 255);
     let c = words::number(b, line, 255);
@@ -303,9 +303,14 @@ fn ticket_fields(t: Ticket, out: &mut [u8], at: usize) -> usize {
 
 fn request_fields(asked: Request, out: &mut [u8], at: usize) -> usize {
     let a = answers::field(out, at, b":", asked.job as u64);
-    let b = answers::field(out, a, b":", asked.unit as u64);
-    let c = answers::field(out, b, b":", asked.sort as u64);
-    answers::field(out, c, b":", asked.register as u64)
+    what_fields(asked, out, a)
+}
+
+// What is asked: module, type and register.
+pub fn what_fields(asked: Request, out: &mut [u8], at: usize) -> usize {
+    let a = answers::field(out, at, b":", asked.unit as u64);
+    let b = answers::field(out, a, b":", asked.sort as u64);
+    answers::field(out, b, b":", asked.register as u64)
 }
 
 fn bad(d: Desk, out: &mut [u8]) -> Told {

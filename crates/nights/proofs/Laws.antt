@@ -2,7 +2,7 @@
 -- Assumes nothing.
 use mathlib.Core.Path.{_≡_, refl, sym, ap, subst, _∙_}
 use mathlib.Core.Bool.{Bool, true, false, cond, not, true≢false}
-use mathlib.Core.List.{List, [], _∷_}
+use mathlib.Core.List.{List, [], _∷_, _++_}
 use mathlib.Core.Logic.{_≢_}
 use mathlib.Core.Option.{Option, some, none}
 use Prim.Native.Nat.{ℕ, zero, suc, _+_, _-_, _≤_}
@@ -291,6 +291,15 @@ module _ (calls : List Call) (call : Call) where
 -- at most one ticket to an address and at most 95 in all: a ticket is open on a host address or not at all
 pub on-hosts-only : (desk : Desk) → SoundDesk desk → (address : ℕ) → OpenOn desk address → (161 ≤ address) × (address ≤ 255)
 on-hosts-only desk s address live = let within = open-within desk address live in (within .0, omega (arith, within .1, s .places))
+
+-- ---- some calls and then more
+
+pub then-all : (first more : List Call) (desk : Desk) (past : List Event)
+    → (afterAll desk (first ++ more) ≡ afterAll (afterAll desk first) more)
+    × (answeredAll desk past (first ++ more) ≡ answeredAll (afterAll desk first) (answeredAll desk past first) more)
+unfolding afterAll answeredAll
+then-all [] more desk past = (refl, refl)
+then-all (c ∷ first) more desk past = then-all first more (after desk c) (eventOf desk c ∷ past)
 
 -- ---- these are the desks and answers of the contracts
 

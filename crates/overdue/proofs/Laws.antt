@@ -16,7 +16,7 @@ use Rattle.rows.proofs.Settled.{settled-parts}
 use Rattle.rows.specs.Settled.{Settled}
 use Rattle.desk.specs.Close.{duePlace, withdrawnOn, Expires}
 use Rattle.desk.specs.Desk.{ticketAt, ticketOn, OpenOn, freshDesk}
-use Rattle.nights.proofs.Laws.{any-night}
+use Rattle.nights.proofs.Laws.{any-night, then-all}
 use Rattle.desk.proofs.Laws.{on-host, open-within}
 use Rattle.ticket.specs.Due.{IsDue, isDue}
 use Rattle.ticket.specs.Ticket.{noTicket, withdrawnAt}
@@ -395,13 +395,6 @@ call-as-single desk clock list r list′ p = (
   sweeps desk clock list r list′ p .stays,
   sweeps desk clock list r list′ p .same,
 )
-
-then-all : (first more : List Call) (desk : Desk) (past : List Event)
-    → (afterAll desk (first ++ more) ≡ afterAll (afterAll desk first) more)
-    × (answeredAll desk past (first ++ more) ≡ answeredAll (afterAll desk first) (answeredAll desk past first) more)
-unfolding afterAll answeredAll
-then-all [] more desk past = (refl, refl)
-then-all (c ∷ first) more desk past = then-all first more (after desk c) (eventOf desk c ∷ past)
 
 -- a night goes on with it: after any calls, a sweep, and any calls more
 pub night-swept : (calls : List Call) (clock : ℕ) (list : List ℕ) (r : Swept) (list′ : List ℕ) → ExpiresAll (afterAll freshDesk calls) clock list r list′

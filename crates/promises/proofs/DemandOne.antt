@@ -31,6 +31,7 @@ pub use Rattle.bench.proofs.Laws.{makes-settled, adds-settled, sets-settled, ta
 pub use Rattle.request.proofs.Laws.{asks-settled}
 pub use Rattle.desk.proofs.Laws.{opens-settled, replies-settled, cancels-settled, expires-settled}
 pub use Rattle.overdue.proofs.Laws.{expires-all-settled}
+pub use Rattle.lanes.proofs.Laws.{joins-settled, grants-settled, withdraws-settled}
 pub use Rattle.receiver.proofs.Laws.{steps-settled}
 pub use Rattle.lister.proofs.Laws.{lists-settled}
 pub use Rattle.varia.proofs.Laws.{sets-settled as edge-sets-settled, attenuates-settled, reads-monitor-settled, reads-status-settled, displays-settled}
@@ -82,6 +83,9 @@ pub use Rattle.setting.proofs.Plain.{numbers-are as sheet-numbers-are}
 pub use Rattle.sheet.proofs.Plain.{told-number as sheet-told-number}
 pub use Rattle.sheet_writer.proofs.Laws.{told-number as sheet-writer-told-number}
 pub use Rattle.varia.proofs.Laws.{numbers-are as box-numbers-are, told-number as box-told-number}
+pub use Rattle.lanes.proofs.Laws.{numbers-are as lanes-numbers-are, told-number as lanes-told-number}
+pub use Rattle.lanes.proofs.Ranking.{join-exactly, withdraw-exactly, join-plainly, withdraw-plainly, their-plainly}
+pub use Rattle.turns.proofs.Laws.{grant-exactly}
 pub use Rattle.varia.proofs.Laws.{set-refused as edge-refused, attenuate-refused, set-passed-up, attenuate-passed-up, monitor-passed-up, status-passed-up}
 -- 02, #105: with 3 the place of the first faulty 94, and with no other number a place
 pub use Rattle.telegram.proofs.Faulty.{place-told, read-place, refused-place, first-faulty-once, first-faulty-plainly, no-other-place, fault-no-place}

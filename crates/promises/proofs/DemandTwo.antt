@@ -69,6 +69,17 @@ pub use Rattle.nights.proofs.Looked.{turn-within-then, considered-then, no-room
 pub use Rattle.nights.proofs.Plainly.{among-plainly, each-plainly, passed-plainly, counted-one, counted-none, count-plainly, others-are, last-there, last-elsewhere}
 -- 02, #102: after a cancel or an expiry the address rests, and a late answer is told as one; both before the address is given again
 pub use Rattle.nights.proofs.Late.{kept-then, rested-before-again, late-refused, nothing-booked, late-exactly, no-ticket-exactly}
+-- ---- 02, #109: lanes in front of the desk. A request is opened within 16 times p grants that open something, once, as it was asked
+pub use Rattle.lanes.proofs.Laws.{fresh-is as lanes-fresh-is, join-refusal-keeps, grant-refusal-keeps, withdraw-refusal-keeps}
+pub use Rattle.lanes.proofs.Ranking.{passed-empty, next-waits, own-is, is-own, for-own, for-empty}
+pub use Rattle.turns.proofs.Orderly.{fresh-orderly, any-orderly}
+pub use Rattle.turns.proofs.Fair.{fair, opened-within, all-calls}
+pub use Rattle.turns.proofs.Fate.{opened-by, withdrawn-by, ended-in, opened-as-asked}
+pub use Rattle.turns.proofs.Calls.{joined-right, granted-right, withdrawn-right}
+pub use Rattle.turns.proofs.Plainly.{less-plainly, waiting-first, waiting-joined, waiting-opened, waiting-elsewhere, waiting-withdrew, right-plainly}
+pub use Rattle.turns.proofs.Plainly.{orderly-plainly, in-turn-plainly, counts-plainly, opened-by-plainly, ended-plainly}
+pub use Rattle.turns.proofs.Reached.{first-reached, fourth-reached}
+pub use Rattle.turns.proofs.Laws.{any-turns, each-once, at-desk, any-night-behind, joins-after, grants-after, withdraws-after}
 -- ---- 02, #104: the filter box asks its module, through the desk, as its name says, and goes by what the desk answered
 pub use Rattle.varia.proofs.Laws.{edge-registers, set-telegram, attenuate-telegram, monitor-telegram, status-telegram}
 pub use Rattle.varia.proofs.Laws.{set-opened, attenuate-opened, monitor-opened, status-opened, edge-allowed}

@@ -23,6 +23,11 @@ use Rattle.ticket.specs.Fit.{fitRefusal}
 use Rattle.desk.specs.Open.{distanceOf, givenPlace, openRefusal}
 use Rattle.desk.specs.Reply.{bookRefusal, replyRefusal}
 use Rattle.varia.specs.Box.{edgeRefusal, attenuationRefusal}
+use Rattle.lanes.specs.Grant.{nextDistance, grantRefusal}
+use Rattle.lanes.specs.Join.{laneFor, joinRefusal}
+use Rattle.lanes.specs.Lanes.{ownLane, emptyLane}
+use Rattle.lanes.specs.Withdraw.{withdrawRefusal}
+use Rattle.lent.specs.Lent.{over}
 use Rattle.setting.specs.Setting.{lengthOf, lengthsTo, headOf, tailOf, rowsIn, heads, tails, settingsIn, isAbove, isAllowed, falls, unfit, someOf}
 use Rattle.sheet.specs.Sheet.{headerFor, recordFor, recordsFor, valuesFor, sheetOf, fieldAt, versionIn, countIn, recordsAt, valuesAt, recordsIn, valuesIn, isMisplaced, checkRefusal}
 use Rattle.sheet.specs.Sheet as sheet
@@ -36,7 +41,7 @@ unfolding allGiven firstPlace passedFrom substituted framed between restored mes
     greatest fits natural bytesOf valueAt elementOf readValue values.readRefusal values.writeRefusal table isFor lineFor catalogue.named findRefusal findEntry
     readDeed writeDeed heldDeed makeRefusal addRefusal setRefusal placeOf deedOf replyFor replyOf requestRefusal takeRefusal
     next closing told stepFrom stepRefusal stepOf askRefusal age fitRefusal distanceOf givenPlace openRefusal bookRefusal replyRefusal
-    edgeRefusal attenuationRefusal
+    edgeRefusal attenuationRefusal over ownLane emptyLane laneFor joinRefusal nextDistance grantRefusal withdrawRefusal
     lengthOf lengthsTo headOf tailOf rowsIn heads tails settingsIn isAbove isAllowed falls unfit someOf headerFor recordFor recordsFor valuesFor sheetOf
     fieldAt versionIn countIn recordsAt valuesAt recordsIn valuesIn isMisplaced checkRefusal sheet.readRefusal handed isMisstated writer.writeRefusal
 every-number = refl

@@ -37,6 +37,11 @@ use Rattle.varia.specs.declared.Out.{Out}
 use Rattle.varia.specs.declared.Out.the-variants as out
 use Rattle.varia.specs.declared.Pass.{Pass}
 use Rattle.varia.specs.declared.Pass.the-variants.{Short, Long}
+use Rattle.lanes.specs.Grant.{grantRefusal}
+use Rattle.lanes.specs.Join.{joinRefusal, joinAnswer, joinTold}
+use Rattle.lanes.specs.Lanes as lanes
+use Rattle.lanes.specs.Withdraw.{withdrawRefusal, withdrawAnswer, withdrawTold}
+use Rattle.lanes.specs.declared.Lanes.{Lanes}
 use Rattle.sheet.specs.Sheet.{countIn, recordsIn, checkRefusal, checkAnswer, checkTold, readRefusal}
 use Rattle.sheet.specs.Sheet as sheet
 use Rattle.setting.specs.Setting.{heads}
@@ -112,6 +117,20 @@ attenuating permille = raised faultNumber (attenuationRefusal permille)
 
 abbrev pub showing : List ℕ → List ℕ → Option ℕ
 showing fresh kept = displayTold (whichOf fresh kept)
+
+-- sixteen lanes in each of which so many requests of job 7 wait; a request of a job, a grant and a withdrawal there
+abbrev pub lanesWith : ℕ → Lanes
+lanesWith n = record { last = 15; lanes = replicate 16 (record { size = n; waiting = replicate 4 (lanes.waitingWith request []) }) }
+
+abbrev pub joining : Lanes → ℕ → Option ℕ
+joining all job =
+    joinTold (joinAnswer (joinRefusal all (record { job = job; unit = request .unit; sort = request .sort; register = request .register; wait = request .wait }) []) all 0)
+
+abbrev pub granting : Lanes → ℕ → Option ℕ
+granting all room = raised lanes.faultNumber (grantRefusal all room)
+
+abbrev pub withdrawing : Lanes → ℕ → ℕ → Option ℕ
+withdrawing all job at = withdrawTold (withdrawAnswer (withdrawRefusal all job at))
 
 -- a sheet by its fields and what follows, and a row of 8 bytes with what follows
 abbrev pub sheetWith : ℕ → ℕ → ℕ → ℕ → List ℕ → List ℕ
@@ -211,6 +230,21 @@ refusals =
     ∷ gives (replying askedDesk (telegramFor 161 10 8 102 [])) 18
     ∷ gives (replying askedDesk (telegramFor 161 15 3 102 [])) 19
     ∷ gives (replying askedDesk (telegramFor 161 15 8 103 [])) 20
+    ∷ gives (joining lanes.freshLanes 8) 0
+    ∷ gives (joining (lanesWith 1) 8) 71
+    ∷ gives (joining (lanesWith 4) 8) 71
+    ∷ gives (joining (lanesWith 4) 7) 72
+    ∷ gives (joining (lanesWith 3) 7) 0
+    ∷ gives (joining (lanesWith 4) 0) 10
+    ∷ gives (granting lanes.freshLanes 493) 73
+    ∷ gives (granting (lanesWith 1) 493) 73
+    ∷ gives (granting lanes.freshLanes 494) 74
+    ∷ gives (granting (lanesWith 1) 494) 0
+    ∷ gives (withdrawing lanes.freshLanes 7 1) 55
+    ∷ gives (withdrawing (lanesWith 2) 8 1) 55
+    ∷ gives (withdrawing (lanesWith 2) 7 0) 55
+    ∷ gives (withdrawing (lanesWith 2) 7 3) 55
+    ∷ gives (withdrawing (lanesWith 2) 7 2) 0
     ∷ gives (settingEdge (filters Unknown Unknown (out.Edge 161 Long 5000)) Short 6000) 59
     ∷ gives (settingEdge (filters (Known 5000) Unknown (out.Edge 161 Short 6000)) Long 5000) 59
     ∷ gives (settingEdge (filters Unknown (Known 6000) out.Nothing) Short 6000) 63

@@ -4,6 +4,8 @@
 use bench::Bench;
 use desk::Desk;
 use desk_calls::Heard;
+use lanes::Lanes;
+use lanes_calls::Hall;
 use libc::STDERR_FILENO;
 use libc::STDIN_FILENO;
 use libc::STDOUT_FILENO;
@@ -24,6 +26,7 @@ const LONGEST_ANSWER: usize = 16 * LONGEST;
 // What the calls so far have made. The bench and the filter box count once one was made.
 struct Made {
     desk: Desk,
+    lanes: Lanes,
     filters: FilterBox,
     has_box: bool,
     bench: Bench,
@@ -102,6 +105,7 @@ fn nothing() -> Made {
     let bench = none.bench;
     Made {
         desk: desk::fresh(),
+        lanes: lanes::fresh(),
         filters: varia::make(0, 0),
         has_box: false,
         bench: bench,
@@ -200,7 +204,7 @@ fn answer_to(line: &[u8], gathered: Gathered, out: &mut [u8]) -> Said {
     Said { made: made, at: 0 }
 }
 
-// Which call it is: those on the desk, those on the filter box, those on the bench, those on the
+// Which call it is: those on the desk, those on the lanes, those on the filter box, those on the bench, those on the
 // receiver, and those that keep nothing.
 fn answer(made: Made, line: &[u8], out: &mut [u8]) -> Said {
     let w = words::word(words::start(), line);
@@ -209,6 +213,9 @@ fn answer(made: Made, line: &[u8], out: &mut [u8]) -> Said {
     }
     if words::starts(w, line, b"desk.") {
         return answer_desk(made, w, line, out);
+    }
+    if words::starts(w, line, b"lane.") {
+        return answer_lane(made, w, line, out);
     }
     if words::starts(w, line, b"varia.") {
         return answer_varia(made, w, line, out);
@@ -231,8 +238,10 @@ fn answer_desk(made: Made, w: Words, line: &[u8], out: &mut [u8]) -> Said {
     let after = told.desk;
     let heard = told.heard;
     let filters = heard_by(made.filters, heard);
+    let lanes = lanes_before(made.lanes, heard);
     let mut next = made;
     next.desk = after;
+    next.lanes = lanes;
     next.filters = filters;
     next.has_box = made.has_box && !is_anew(heard);
     Said {
@@ -263,6 +272,34 @@ fn heard_by(filters: FilterBox, heard: Heard) -> FilterBox {
         Heard::Reply(booking) => varia::told_reply(filters, booking),
         Heard::Closing(closing) => varia::told_closing(filters, closing),
         _ => filters,
+    }
+}
+
+// A new desk has empty lanes in front of it.
+fn lanes_before(lanes: Lanes, heard: Heard) -> Lanes {
+    match heard {
+        Heard::Anew => lanes::fresh(),
+        _ => lanes,
+    }
+}
+
+fn answer_lane(made: Made, w: Words, line: &[u8], out: &mut [u8]) -> Said {
+    let waiting = made.lanes;
+    let asked = made.desk;
+    let before = Hall {
+        lanes: waiting,
+        desk: asked,
+    };
+    let told = lanes_calls::answer(before, w, line, out);
+    let hall = told.hall;
+    let lanes = hall.lanes;
+    let desk = hall.desk;
+    let mut next = made;
+    next.lanes = lanes;
+    next.desk = desk;
+    Said {
+        made: next,
+        at: told.at,
     }
 }
 

@@ -1,0 +1,160 @@
+-- What is promised of the lanes, each law under the sentence of 02, #109, that it keeps. Their numbers are in Ranking.antt, and what holds
+-- over many calls in the crate `turns`.
+-- Assumes nothing.
+use mathlib.Core.Path.{_≡_, refl, sym, ap, ap₂, _∙_}
+use mathlib.Core.Bool.{Bool, true, false}
+use mathlib.Core.List.{List, [], _∷_, _++_}
+use mathlib.Core.Option.{Option, some, none}
+use Prim.Native.Nat.{ℕ, zero, suc, _+_, _-_, _%_, _≤_, _<_}
+use native.Mathlib.Omega.{arith}
+use lib.ListN.{length, take, set}
+use Rattle.rows.proofs.Laws.{clash}
+use Rattle.rows.proofs.Settled.{settled}
+use Rattle.rows.specs.Settled.{Settled}
+use Rattle.request.specs.declared.Fault.{Fault as Asked}
+use Rattle.request.specs.declared.Request.{Request}
+use Rattle.request.specs.Request.{faultNumber as askNumber}
+use Rattle.desk.proofs.Laws.{opens-settled, open-refusal-keeps}
+use Rattle.desk.specs.Desk.{faultNumber as deskNumber}
+use Rattle.desk.specs.Open.{Opens}
+use Rattle.desk.specs.declared.AfterOpen.{AfterOpen}
+use Rattle.desk.specs.declared.Desk.{Desk}
+use Rattle.desk.specs.declared.Fault.{Fault as DeskFault}
+use Rattle.desk.specs.declared.Opening.{Opening}
+use Rattle.desk.specs.declared.Opening.the-variants.{Opened, Refused as NotOpened}
+use Rattle.lanes.specs.Lanes.{Fresh, Numbers, freshLanes, laneAt, waitingAt, dataOf, queueIn, withLast, without, nextAt, ownLane, faultNumber}
+use Rattle.lanes.specs.Join.{joinRefusal, joinAnswer, joinLanes, laneFor, Joins, joinTold}
+use Rattle.lanes.specs.Grant.{grantRefusal, nextPlace, movesOn, servedFrom, fromDesk, GrantsBy, Grants, Serves, grantTold}
+use Rattle.lanes.specs.Withdraw.{withdrawRefusal, withdrawAnswer, withdrawLanes, Withdraws, withdrawTold}
+use Rattle.lanes.specs.declared.AfterGrant.{AfterGrant}
+use Rattle.lanes.specs.declared.AfterJoin.{AfterJoin}
+use Rattle.lanes.specs.declared.AfterWithdraw.{AfterWithdraw}
+use Rattle.lanes.specs.declared.Fault.{Fault}
+use Rattle.lanes.specs.declared.Fault.the-variants.{Denied, NoLaneFree, LaneFull, ShortBuffer, NothingWaiting, NoSuchRequest, AtDesk}
+use Rattle.lanes.specs.declared.Granting.{Granting}
+use Rattle.lanes.specs.declared.Granting.the-variants.{Granted, Refused as NotGranted}
+use Rattle.lanes.specs.declared.Joining.{Joining}
+use Rattle.lanes.specs.declared.Joining.the-variants.{Joined, Refused as NotJoined}
+use Rattle.lanes.specs.declared.Lane.{Lane}
+use Rattle.lanes.specs.declared.Lanes.{Lanes}
+use Rattle.lanes.specs.declared.Withdrawing.{Withdrawing}
+use Rattle.lanes.specs.declared.Withdrawing.the-variants.{Done, Refused as NotDone}
+
+-- ---- "a refusal changes no ticket [..] and no byte of a buffer we lent", and no lane
+
+pub join-refusal-keeps : (lanes : Lanes) (asked : Request) (bytes : List ℕ) (r : AfterJoin) (f : Fault) → Joins lanes asked bytes r → r .answer ≡ NotJoined f → r .lanes ≡ lanes
+join-refusal-keeps lanes asked bytes r f j e = go (joinRefusal lanes asked bytes) (j .0) (j .1)
+  where
+    go : (o : Option Fault) → r .answer ≡ joinAnswer o lanes (laneFor lanes (asked .job))
+        → r .lanes ≡ joinLanes o lanes (laneFor lanes (asked .job)) asked bytes → r .lanes ≡ lanes
+    go (some g) a b = b
+    go none a b = let both : NotJoined f ≡ Joined (laneFor lanes (asked .job) + 1) (laneAt lanes (laneFor lanes (asked .job)) .size + 1) = sym e ∙ a in clash (cc)
+
+pub withdraw-refusal-keeps : (lanes : Lanes) (job at : ℕ) (r : AfterWithdraw) (f : Fault) → Withdraws lanes job at r → r .answer ≡ NotDone f → r .lanes ≡ lanes
+withdraw-refusal-keeps lanes job at r f w e = go (withdrawRefusal lanes job at) (w .0) (w .1)
+  where
+    go : (o : Option Fault) → r .answer ≡ withdrawAnswer o → r .lanes ≡ withdrawLanes o lanes (ownLane lanes job) at → r .lanes ≡ lanes
+    go (some g) a b = b
+    go none a b = let both : NotDone f ≡ Done = sym e ∙ a in clash (cc)
+
+-- "A grant answered 15 changes nothing": nor does any other refusal
+pub grant-refusal-keeps : (lanes : Lanes) (desk : Desk) (clock : ℕ) (room : List ℕ) (r : AfterGrant) (room′ : List ℕ) (f : Fault)
+    → Grants lanes desk clock room r room′ → r .answer ≡ NotGranted f → (r .lanes ≡ lanes) × (r .desk ≡ desk) × (room′ ≡ room)
+grant-refusal-keeps lanes desk clock room r room′ f g e = by (grantRefusal lanes (length room)) g
+  where
+    by : (o : Option Fault) → GrantsBy o lanes desk clock room r room′ → (r .lanes ≡ lanes) × (r .desk ≡ desk) × (room′ ≡ room)
+    by (some h) g = (g .0 .1, g .0 .2, g .1)
+    by none g = go (g .0 .answer) refl
+      where
+        go : (a : Opening) → g .0 .answer ≡ a → (r .lanes ≡ lanes) × (r .desk ≡ desk) × (room′ ≡ room)
+        go (Opened address n) p =
+            let both : NotGranted f ≡ Granted _ address n = sym e ∙ g .2 .0 ∙ ap (fromDesk _) p in
+            clash (cc)
+        go (NotOpened h) p =
+            let kept = open-refusal-keeps desk _ _ clock room (g .0) room′ (g .1) h p in
+            (g .2 .1 ∙ rw p, g .2 .2 ∙ kept .0, kept .1)
+
+-- ---- the numbers that answers tell
+
+pub numbers-are : (r : ℕ)
+    → (Numbers NoLaneFree r → r ≡ 71)
+    × (Numbers LaneFull r → r ≡ 72)
+    × (Numbers ShortBuffer r → r ≡ 73)
+    × (Numbers NothingWaiting r → r ≡ 74)
+    × (Numbers NoSuchRequest r → r ≡ 55)
+    × ((f : Asked) → Numbers (Denied f) r → r ≡ askNumber f)
+    × ((f : DeskFault) → Numbers (AtDesk f) r → r ≡ deskNumber f)
+numbers-are r = (λ p. p, λ p. p, λ p. p, λ p. p, λ p. p, λ f p. p, λ f p. p)
+
+pub told-number : (f : Fault) (k : ℕ) → Numbers f k
+    → (joinTold (NotJoined f) ≡ some k) × (grantTold (NotGranted f) ≡ some k) × (withdrawTold (NotDone f) ≡ some k)
+told-number f k p = (ap some (sym p), ap some (sym p), ap some (sym p))
+
+pub fresh-is : (lanes : Lanes) → Fresh lanes → lanes ≡ freshLanes
+fresh-is lanes p = p
+
+-- ---- 01: "Show that any two outcomes allowed by it are equal."
+
+pub fresh-settled : Settled Fresh
+fresh-settled = settled _
+
+pub numbers-settled : (f : Fault) → Settled (Numbers f)
+numbers-settled f = settled _
+
+pub joins-settled : (lanes : Lanes) (asked : Request) (bytes : List ℕ) → Settled (Joins lanes asked bytes)
+joins-settled lanes asked bytes = both _ _
+  where
+    both : (x : Joining) (y : Lanes) → Settled {A = AfterJoin} (λ r. (r .answer ≡ x) × (r .lanes ≡ y))
+    both x y =
+        record {
+          outcome = record { answer = x; lanes = y };
+          is-allowed = (refl, refl);
+          only = λ other p. ap₂ (λ (a : Joining) (b : Lanes). record { answer = a; lanes = b }) (p .0) (p .1);
+        }
+
+pub withdraws-settled : (lanes : Lanes) (job at : ℕ) → Settled (Withdraws lanes job at)
+withdraws-settled lanes job at = both _ _
+  where
+    both : (x : Withdrawing) (y : Lanes) → Settled {A = AfterWithdraw} (λ r. (r .answer ≡ x) × (r .lanes ≡ y))
+    both x y =
+        record {
+          outcome = record { answer = x; lanes = y };
+          is-allowed = (refl, refl);
+          only = λ other p. ap₂ (λ (a : Withdrawing) (b : Lanes). record { answer = a; lanes = b }) (p .0) (p .1);
+        }
+
+-- an outcome, part by part
+same : (s : AfterGrant) (m : List ℕ) (x : Granting) (y : Lanes) (z : Desk) (k : ℕ) (w : List ℕ)
+    → s .answer ≡ x → s .lanes ≡ y → s .desk ≡ z → s .count ≡ k → m ≡ w
+    → _≡_ {A = AfterGrant × List ℕ} (s, m) (record { answer = x; lanes = y; desk = z; count = k }, w)
+same s m x y z k w p q t c u = rw (sym p, sym q, sym t, sym c, sym u) refl
+
+pub grants-settled : (lanes : Lanes) (desk : Desk) (clock : ℕ) (room : List ℕ)
+    → Settled {A = AfterGrant × List ℕ} (λ o. Grants lanes desk clock room (o .0) (o .1))
+grants-settled lanes desk clock room = by (grantRefusal lanes (length room))
+  where
+    by : (o : Option Fault) → Settled {A = AfterGrant × List ℕ} (λ a. GrantsBy o lanes desk clock room (a .0) (a .1))
+    by (some f) =
+        record {
+          outcome = (record { answer = NotGranted f; lanes = lanes; desk = desk; count = 0 }, room);
+          is-allowed = ((refl, refl, refl, refl), refl);
+          only = λ p a. same (p .0) (p .1) (NotGranted f) lanes desk 0 room (a .0 .0) (a .0 .1) (a .0 .2) (a .0 .3) (a .1);
+        }
+    by none =
+        let oldest = waitingAt (laneAt lanes (nextPlace lanes)) 0 in
+        let opens = opens-settled desk (oldest .asked) (dataOf oldest) clock room in
+        let o : AfterOpen = opens .outcome .0 in
+        let answer : Opening → Granting = fromDesk (oldest .asked .job) in
+        let next : Opening → Lanes = λ a. servedFrom lanes (nextPlace lanes) (laneAt lanes (nextPlace lanes)) (movesOn a) in
+        record {
+          outcome = (record { answer = answer (o .answer); lanes = next (o .answer); desk = o .desk; count = o .count }, opens .outcome .1);
+          is-allowed = (o, opens .is-allowed, (refl, refl, refl, refl));
+          only = λ p a.
+              let is = opens .only (a .0, p .1) (a .1) in
+              same (p .0) (p .1) (answer (o .answer)) (next (o .answer)) (o .desk) (o .count) (opens .outcome .1)
+              (a .2 .0 ∙ ap (λ (x : AfterOpen × List ℕ). answer (x .0 .answer)) is)
+              (a .2 .1 ∙ ap (λ (x : AfterOpen × List ℕ). next (x .0 .answer)) is)
+              (a .2 .2 ∙ ap (λ (x : AfterOpen × List ℕ). x .0 .desk) is)
+              (a .2 .3 ∙ ap (λ (x : AfterOpen × List ℕ). x .0 .count) is)
+              (ap (λ (x : AfterOpen × List ℕ). x .1) is);
+        }

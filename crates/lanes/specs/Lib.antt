@@ -1,0 +1,4 @@
+pub mod Lanes
+pub mod Join
+pub mod Grant
+pub mod Withdraw

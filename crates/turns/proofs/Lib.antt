@@ -1,0 +1,9 @@
+pub mod Arrays
+pub mod Orderly
+pub mod Fair
+pub mod Fate
+pub mod Queue
+pub mod Calls
+pub mod Laws
+pub mod Plainly
+pub mod Reached

@@ -1,0 +1,4 @@
+pub mod Turns
+pub mod Queue
+pub mod Fair
+pub mod Outcome
