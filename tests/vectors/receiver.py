@@ -1,9 +1,8 @@
 """receiver.py calls | answers: the call lines of tests/vectors/receiver_night.calls, and what each must answer, worked out
 apart from the library: all bytes since `rx.new` are kept and joined, and each answer is looked up in one reading of them."""
-import itertools
 import re
 
-from wire import bad, framed, printed, remainder, say, script
+from wire import bad, framed, longest, printed, remainder, say, script
 
 LARGEST = 2**64 - 1
 LONGEST = (65536 - len("rx.feed ")) // 2  # bytes: no call line holds more
@@ -86,22 +85,6 @@ def each(data):
 
 
 # ---- the telegrams
-
-SPECIAL = bytes([10, 13, 94])  # what is converted
-
-
-def longest(head):
-    """A right message of 246 bytes, all of which are converted but for those of the head: the last ten data bytes are
-    looked for until both remainder bytes are converted too."""
-    before = head + bytes([94] * 230)
-    carried = remainder(before).to_bytes(2, "big")
-    for tail in itertools.product(SPECIAL, repeat=10):
-        # the remainder of what comes before is carried on by the two bytes that follow
-        seal = remainder(bytes([carried[0] ^ tail[0], carried[1] ^ tail[1], *tail[2:]])).to_bytes(2, "big")
-        if set(seal) <= set(SPECIAL):
-            return before + bytes(tail) + seal
-    raise SystemExit("no such message")
-
 
 ACK = bytes.fromhex("0da20f0330482f0a")  # the manual's
 SAMPLE = ACK + bytes.fromhex("0d0a0d05")  # 01's

@@ -1,6 +1,7 @@
 """What the scripts beside it share: the bytes of telegrams, worked out by long division, call lines with the words of
 their answers, and how many addresses an opening considers. Nothing here follows a desk or a box: a script says itself
 which address is given, and the turn stands behind that one."""
+import itertools
 import re
 import sys
 
@@ -56,6 +57,22 @@ def telegram(dest, src, sort, register, data=b""):
 
 
 assert telegram(15, 162, READ, 0x66).hex() == "0d0fa20466c7b60a"  # T1
+
+SPECIAL = bytes([10, 13, 94])  # what is converted
+
+
+def longest(head):
+    """A right message of 246 bytes, all of which are converted but for those of the head: the last ten data bytes are
+    looked for until both remainder bytes are converted too."""
+    before = head + bytes([94] * 230)
+    carried = remainder(before).to_bytes(2, "big")
+    for tail in itertools.product(SPECIAL, repeat=10):
+        # the remainder of what comes before is carried on by the two bytes that follow
+        seal = remainder(bytes([carried[0] ^ tail[0], carried[1] ^ tail[1], *tail[2:]])).to_bytes(2, "big")
+        if set(seal) <= set(SPECIAL):
+            return before + bytes(tail) + seal
+    raise SystemExit("no such message")
+
 
 # ---- how far an opening looks
 
