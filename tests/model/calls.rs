@@ -1,9 +1,10 @@
-//! Call scripts: a line is parsed, run on the desk, the box, the bench, the receiver or a sheet, and its answer
-//! formatted.
+//! Call scripts: a line is parsed, run on the desk, the lanes, the box, the bench, the receiver or a sheet, and its
+//! answer formatted.
 
 use crate::bench::{Bench, Register};
 use crate::catalogue;
 use crate::desk::{Desk, Opened, Request, Ticket};
+use crate::lanes::Lanes;
 use crate::receiver::{Fed, Receiver};
 use crate::remainder::remainder;
 use crate::sheet::{self, Head, Setting};
@@ -37,6 +38,10 @@ enum Call {
     DeskExpire { clock: u32 },
     DeskExpall { clock: u32, room: usize },
     DeskDump,
+    LaneJoin { request: Request },
+    LaneGrant { clock: u32, buf: Vec<u8> },
+    LaneWithdraw { job: u32, place: u64 },
+    LaneDump,
     VariaNew { job: u32, module: u8 },
     OnVaria(VariaCall),
     RxNew { place: u64 },
@@ -92,7 +97,7 @@ impl<'a> Words<'a> {
         u32::try_from(decimal(self.word()?)?).ok()
     }
 
-    /// The next word as a 64-bit number: an element's or a record's, or a place.
+    /// The next word as a 64-bit number: an element's or a record's, or a place in a capture or a lane.
     fn long_number(&mut self) -> Option<u64> {
         u64::try_from(decimal(self.word()?)?).ok()
     }
@@ -191,6 +196,10 @@ fn parse_call(name: &[u8], words: &mut Words) -> Option<Call> {
         b"desk.expire" => Call::DeskExpire { clock: words.number()? },
         b"desk.expall" => Call::DeskExpall { clock: words.number()?, room: words.room()? },
         b"desk.dump" => Call::DeskDump,
+        b"lane.join" => Call::LaneJoin { request: parse_waiting(words)? },
+        b"lane.grant" => Call::LaneGrant { clock: words.number()?, buf: words.bytes()? },
+        b"lane.withdraw" => Call::LaneWithdraw { job: words.number()?, place: words.long_number()? },
+        b"lane.dump" => Call::LaneDump,
         b"varia.new" => Call::VariaNew { job: words.number()?, module: words.byte()? },
         b"varia.short" => parse_wish(Wish::Set(Edge::Short, words.short_number()?), words)?,
         b"varia.long" => parse_wish(Wish::Set(Edge::Long, words.short_number()?), words)?,
@@ -216,11 +225,18 @@ fn parse_message(words: &mut Words) -> Option<Message> {
     Some(Message { dest, source, type_no, register, data: words.bytes()? })
 }
 
-/// JOB MODULE TYPE REG DATA WAIT FOLDER CLOCK of an opening; the folder must parse and is passed over.
-fn parse_request(words: &mut Words) -> Option<Request> {
+/// JOB MODULE TYPE REG DATA WAIT FOLDER of a request that is to wait, with no clock yet; the folder must parse and is
+/// passed over.
+fn parse_waiting(words: &mut Words) -> Option<Request> {
     let (job, module, type_no, register) = (words.number()?, words.byte()?, words.byte()?, words.byte()?);
-    let (data, wait, _folder, clock) = (words.bytes()?, words.number()?, words.number()?, words.number()?);
-    Some(Request { job, module, type_no, register, data, wait, clock })
+    let (data, wait, _folder) = (words.bytes()?, words.number()?, words.number()?);
+    Some(Request { job, module, type_no, register, data, wait, clock: 0 })
+}
+
+/// The same and CLOCK, of an opening.
+fn parse_request(words: &mut Words) -> Option<Request> {
+    let waiting = parse_waiting(words)?;
+    Some(Request { clock: words.number()?, ..waiting })
 }
 
 /// WAIT CLOCK BUF of a wish.
@@ -250,19 +266,20 @@ fn parse_setting(named: &[u8]) -> Option<Setting> {
     Some(Setting { head, value })
 }
 
-/// What the calls work on: the desk, the box and the bench once there is one, and the receiver.
+/// What the calls work on: the desk and its lanes, the box and the bench once there is one, and the receiver.
 #[derive(Clone)]
 pub struct Rehearsal {
     pub desk: Desk,
+    pub lanes: Lanes,
     pub varia: Option<Varia>,
     pub bench: Option<Bench>,
     pub receiver: Receiver,
 }
 
 impl Rehearsal {
-    /// A fresh desk, no box, no bench, and a fresh receiver at place 0.
+    /// A fresh desk with fresh lanes, no box, no bench, and a fresh receiver at place 0.
     pub fn new() -> Rehearsal {
-        Rehearsal { desk: Desk::new(), varia: None, bench: None, receiver: Receiver::new(0) }
+        Rehearsal { desk: Desk::new(), lanes: Lanes::new(), varia: None, bench: None, receiver: Receiver::new(0) }
     }
 
     /// The answer line to a call line, both without their newline.
@@ -298,6 +315,12 @@ impl Rehearsal {
             Call::DeskExpire { clock } => plain(self.expire(clock).map(closed_fields)),
             Call::DeskExpall { clock, room } => ok(expired_fields(&self.expire_all(clock, room), room)),
             Call::DeskDump => ok(desk_fields(&self.desk)),
+            Call::LaneJoin { request } => plain(self.lanes.join(request).map(joined_fields)),
+            Call::LaneGrant { clock, buf } => {
+                lent(buf, |room| self.lanes.grant(&mut self.desk, clock, room).map(granted_fields))
+            }
+            Call::LaneWithdraw { job, place } => plain(self.lanes.withdraw(job, place).map(|()| String::new())),
+            Call::LaneDump => ok(lanes_fields(&self.lanes)),
             Call::VariaNew { job, module } => ok(self.new_varia(job, module)),
             Call::OnVaria(call) => match &mut self.varia {
                 Some(varia) => run_on_varia(varia, &mut self.desk, call),
@@ -320,9 +343,10 @@ impl Rehearsal {
         Ok(String::new())
     }
 
-    /// A fresh desk takes the place of the one there was, and there is no box; no fields are answered.
+    /// A fresh desk and fresh lanes take the place of those there were, and there is no box; no fields are answered.
     fn new_desk(&mut self) -> String {
         self.desk = Desk::new();
+        self.lanes = Lanes::new();
         self.varia = None;
         String::new()
     }
@@ -462,6 +486,27 @@ fn catalogue_fields(entry: catalogue::Entry) -> String {
 /// The fields of an opened ticket, and its telegram for the buffer.
 fn open_fields(Opened { address, telegram, count }: Opened) -> (String, Vec<u8>) {
     (format!("address={address} n={} count={count}", telegram.len()), telegram)
+}
+
+/// The lane and the place of a request that has joined.
+fn joined_fields((lane, place): (usize, usize)) -> String {
+    format!("lane={lane} at={place}")
+}
+
+/// The job of a request that was granted, the fields of its ticket, and its telegram for the buffer.
+fn granted_fields((job, opened): (u32, Opened)) -> (String, Vec<u8>) {
+    let (fields, telegram) = open_fields(opened);
+    (format!("job={job} {fields}"), telegram)
+}
+
+/// The lane last served, and what waits in each lane, the oldest first.
+fn lanes_fields(lanes: &Lanes) -> String {
+    let shown = |request: &Request| {
+        let Request { job, module, type_no, register, data, wait, .. } = request;
+        format!("{job}:{module}:{type_no}:{register}:{}:{wait}", hex(data))
+    };
+    let each: Vec<String> = lanes.lanes.iter().map(|lane| list(lane.iter().map(shown).collect())).collect();
+    format!("last={} lanes={}", lanes.last, each.join("|"))
 }
 
 /// The fields of a booked reply, and its data for the buffer.

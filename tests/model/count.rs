@@ -8,10 +8,11 @@ use crate::places::Places;
 use crate::rests::{opens, Rests};
 use crate::sheets::Sheets;
 use crate::telegram::No;
+use crate::turns::Turns;
 use std::collections::BTreeMap;
 
 /// Each call with the numbers its order lists.
-const ORDERS: [(&str, &[No]); 33] = [
+const ORDERS: [(&str, &[No]); 37] = [
     ("rem", &[]),
     ("read", &[1, 2, 3, 4, 5, 6, 7, 8, 9]),
     ("write", &[5, 8, 9, 6]),
@@ -30,6 +31,10 @@ const ORDERS: [(&str, &[No]); 33] = [
     ("desk.expire", &[22]),
     ("desk.expall", &[]),
     ("desk.dump", &[]),
+    ("lane.join", &[10, 11, 12, 13, 14, 71, 72]),
+    ("lane.grant", &[73, 74, 15]),
+    ("lane.withdraw", &[55]),
+    ("lane.dump", &[]),
     ("varia.new", &[]),
     ("varia.short", &[59, 63, 10, 11, 14, 15, 16]),
     ("varia.long", &[59, 63, 10, 11, 14, 15, 16]),
@@ -118,11 +123,14 @@ pub fn count(script: &[u8], answers: &[u8]) -> (String, bool) {
     complaints.extend(dues.missing());
     let looks = Looks::of(&calls, &answers);
     complaints.extend(looks.missing());
+    let turns = Turns::of(&calls, &answers);
+    complaints.extend(turns.missing());
     if calls.len() != answers.len() {
         complaints.push(format!("{} calls but {} answers", calls.len(), answers.len()));
     }
     let told: String = complaints.iter().map(|line| format!("{line}\n")).collect();
-    let of_subjects = [rests.lines(), filters.lines(), places.lines(), sheets.lines(), dues.lines(), looks.lines()];
+    let of_subjects =
+        [rests.lines(), filters.lines(), places.lines(), sheets.lines(), dues.lines(), looks.lines(), turns.lines()];
     (table(&counts) + &borders_line(over_borders) + &of_subjects.concat() + &told, complaints.is_empty())
 }
 

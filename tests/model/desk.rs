@@ -62,7 +62,7 @@ fn counted(no: No, count: usize) -> Refusal {
 
 impl Request {
     /// Rows 10 to 14: what is wrong with the request itself.
-    fn check(&self) -> Result<(), No> {
+    pub fn check(&self) -> Result<(), No> {
         lowest(&[
             (10, self.job == 0),
             (11, !(1..=160).contains(&self.module)),
@@ -141,8 +141,8 @@ impl Desk {
         self.closed.insert(address, clock);
     }
 
-    /// Opens a ticket for a buffer with this room: 10 to 16, each with the count of addresses that were considered: none
-    /// of them for a wrong request, all where none is free, and with 16 those up to the one that would have been given.
+    /// Opens a ticket for a buffer with this room: 10 to 16, each with the count of addresses that were considered:
+    /// none for a wrong request, all where none is free, and with 16 those up to the one that would have been given.
     pub fn open(&mut self, request: &Request, room: usize) -> Result<Opened, Refusal> {
         request.check().map_err(|no| counted(no, 0))?;
         let round = self.round();

@@ -3,6 +3,7 @@
 
 use crate::calls::MOST_ENTRIES;
 use crate::desk::{age, HOSTS};
+use crate::queue::Queue;
 use crate::rests::{field, opens, parsed};
 use std::collections::BTreeMap;
 
@@ -45,9 +46,10 @@ impl Ticket {
 }
 
 /// The tickets as calls and answers tell them, and how often each thing was met.
-#[derive(Default)]
 pub struct Dues {
     tickets: BTreeMap<u8, Ticket>,
+    /// What waits in the lanes, since a grant doesn't tell the waiting time.
+    queue: Queue,
     /// The clock of the latest of these calls that had an entry to fill, if no ticket was opened, booked or cancelled
     /// since.
     latest: Option<u32>,
@@ -57,7 +59,8 @@ pub struct Dues {
 impl Dues {
     /// The expiries of a whole script.
     pub fn of(calls: &[&[u8]], answers: &[&[u8]]) -> Dues {
-        let mut dues = Dues::default();
+        let (tickets, times) = (BTreeMap::new(), BTreeMap::new());
+        let mut dues = Dues { tickets, queue: Queue::new(), latest: None, times };
         for (call, answer) in calls.iter().zip(answers) {
             dues.hear(&String::from_utf8_lossy(call), &String::from_utf8_lossy(answer));
         }
@@ -93,18 +96,22 @@ impl Dues {
         }
     }
 
-    /// Hears of a call and its answer; only calls on the desk, the box's too, have something to tell.
+    /// Hears of a call and its answer; only calls on the desk, the box's and grants too, have something to tell.
     fn hear(&mut self, call: &str, answer: &str) {
         if answer == "bad line" || answer == "no box" {
             return;
         }
         let words: Vec<&str> = call.split(' ').collect();
+        let granted = self.queue.hear(&words, answer);
         match (&words[..], field(answer, "address=")) {
             (["desk.new"], _) => {
                 self.tickets.clear();
                 self.latest = None;
             }
             (["desk.open", .., wait, _, clock, _], Some(address)) => self.opened(address, parsed(wait), parsed(clock)),
+            (["lane.grant", clock, _], Some(address)) => {
+                self.opened(address, granted.map_or(0, |(_, request)| request.wait), parsed(clock))
+            }
             ([name, .., wait, clock, _], Some(address)) if opens(name) => {
                 self.opened(address, parsed(wait), parsed(clock))
             }

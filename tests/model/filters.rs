@@ -60,11 +60,12 @@ const ANEW: [&str; 5] = [
 ];
 /// What must have been met while an edge request was out: other openings, the ends of other tickets, and replies on its
 /// own address that are refused; and a reply that comes once it was cancelled or expired.
-const MEANWHILE: [&str; 13] = [
+const MEANWHILE: [&str; 14] = [
     "attenuation",
     "monitor",
     "status",
     "another opened",
+    "another granted",
     "another booked",
     "another cancelled",
     "another expired",
@@ -154,6 +155,7 @@ impl Filters {
             ["varia.monitor", ..] => self.opened("monitor", answer),
             ["varia.status", ..] => self.opened("status", answer),
             ["desk.open", ..] => self.opened("another opened", answer),
+            ["lane.grant", ..] => self.opened("another granted", answer),
             ["desk.reply", frame, _] => self.replied(frame, answer),
             ["desk.cancel", _, address, _] => {
                 self.ended_by("cancel", "another cancelled", "old request cancelled", answer);

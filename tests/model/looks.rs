@@ -25,8 +25,10 @@ const FOUND: [&str; 12] = [
 const NONE: [&str; 3] = ["on an empty desk", "some free", "none free"];
 /// What must have been met of each call of the box's that opens.
 const BOX: [&str; 5] = ["1", "more", "16 with 1", "16 with more", "15"];
-/// What must have been met, under thirteen heads.
-const WANTED: [(&str, &[&str]); 13] = [
+/// What must have been met of grants.
+const GRANT: [&str; 6] = ["1", "more", "past resting ones", "15 all open", "15 all resting", "15 open and resting"];
+/// What must have been met, under fourteen heads.
+const WANTED: [(&str, &[&str]); 14] = [
     ("given", &FOUND),
     ("16", &FOUND),
     ("15", &["all open", "all resting", "open and resting"]),
@@ -40,6 +42,7 @@ const WANTED: [(&str, &[&str]); 13] = [
     ("varia.att", &BOX),
     ("varia.monitor", &BOX),
     ("varia.status", &BOX),
+    ("lane.grant", &GRANT),
 ];
 
 /// So many wrong counts are told; others go untold.
@@ -106,7 +109,7 @@ impl Looks {
         }
     }
 
-    /// Hears of a call and its answer; only calls on the desk, the box's too, have something to tell.
+    /// Hears of a call and its answer; only calls on the desk, the box's and grants too, have something to tell.
     fn hear(&mut self, call: &str, answer: &str) {
         if answer == "bad line" || answer == "no box" {
             return;
@@ -182,6 +185,7 @@ impl Looks {
                     _ => "open and resting",
                 };
                 self.count_if(true, "15", thing);
+                self.count_if(true, name, &format!("15 {thing}"));
             }
             Some(no) => {
                 let is_none_free = passed.len() == usize::from(HOSTS);
@@ -193,6 +197,7 @@ impl Looks {
         self.count_if(no.is_none(), name, if count == 1 { "1" } else { "more" });
         self.count_if(no == Some("16"), name, if count == 1 { "16 with 1" } else { "16 with more" });
         self.count_if(no == Some("15"), name, "15");
+        self.count_if(no.is_none() && passed.len() > open, name, "past resting ones");
     }
 
     /// Whether no address has a ticket or had one that was cancelled or expired.

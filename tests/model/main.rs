@@ -10,11 +10,14 @@ mod cuts;
 mod desk;
 mod dues;
 mod expiries;
+mod fair;
 mod faults;
 mod filters;
+mod lanes;
 mod listing;
 mod looks;
 mod places;
+mod queue;
 mod random;
 mod receiver;
 mod remainder;
@@ -23,6 +26,7 @@ mod script;
 mod sheet;
 mod sheets;
 mod telegram;
+mod turns;
 mod values;
 mod varia;
 mod vectors;
@@ -31,7 +35,7 @@ use std::io::{self, Read, Write};
 use std::process::ExitCode;
 
 const USAGE: &str = "usage: model answer | script SEED CALLS | count SCRIPT ANSWERS | cuts | list | capture SEED | \
-chunks SEED CAPTURES | expiries SEED DESKS | vectors";
+chunks SEED CAPTURES | expiries SEED DESKS | lanes SEED RUNS | vectors";
 
 /// 0 when all is well, 1 when a check fails, 2 when the command can't be carried out.
 fn main() -> ExitCode {
@@ -66,6 +70,10 @@ fn run(words: &[&str]) -> io::Result<bool> {
             let (report, no_difference) = expiries::report(number(seed)?, number(desks)?);
             put(report, no_difference)
         }
+        ["lanes", seed, runs] => {
+            let (report, none_late) = fair::report(number(seed)?, number(runs)?);
+            put(report, none_late)
+        }
         ["vectors"] => {
             let (report, all_hold) = vectors::report();
             put(report, all_hold)
@@ -87,7 +95,7 @@ fn put(bytes: impl AsRef<[u8]>, verdict: bool) -> io::Result<bool> {
     Ok(verdict)
 }
 
-/// A seed, or a number of calls, captures or desks.
+/// A seed, or a number of calls, captures, desks or runs.
 fn number(word: &str) -> io::Result<u64> {
     word.parse().map_err(|_| io::Error::new(io::ErrorKind::Other, USAGE))
 }

@@ -85,7 +85,7 @@ impl Rests {
         never.map(|(head, thing)| format!("{head}: {thing} never occurred")).collect()
     }
 
-    /// Hears of a call and its answer; only calls on the desk, the box's too, have something to tell.
+    /// Hears of a call and its answer; only calls on the desk, the box's and grants too, have something to tell.
     fn hear(&mut self, call: &str, answer: &str) {
         if answer == "bad line" || answer == "no box" {
             return;
@@ -208,9 +208,10 @@ impl Rests {
     }
 }
 
-/// Whether a call of this name opens a ticket: the desk's own, or one of the box's.
+/// Whether a call of this name opens a ticket: the desk's own, one of the box's, or a grant.
 pub fn opens(name: &str) -> bool {
-    ["desk.open", "varia.short", "varia.long", "varia.att", "varia.monitor", "varia.status"].contains(&name)
+    let of_the_box = ["varia.short", "varia.long", "varia.att", "varia.monitor", "varia.status"];
+    ["desk.open", "lane.grant"].contains(&name) || of_the_box.contains(&name)
 }
 
 /// The number after this name in an answer.

@@ -3,6 +3,7 @@
 mod bench_walk;
 mod desk_walk;
 mod expall_walk;
+mod lane_walk;
 mod look_walk;
 mod numbers;
 mod receiver_walk;
@@ -15,7 +16,7 @@ mod varia_walk;
 use crate::calls::Rehearsal;
 use crate::random::Random;
 
-/// A script under way: its lines and the desk, box, bench and receiver they have led to.
+/// A script under way: its lines and the desk, lanes, box, bench and receiver they have led to.
 pub struct Script {
     random: Random,
     rehearsal: Rehearsal,
@@ -113,11 +114,32 @@ const EXPALL_ROUND: [Section; 6] = [
 /// their own as well.
 const LOOK_ROUND: [Section; 3] = [look_walk::distances, look_walk::resting, look_walk::boxes];
 
+/// The sections on the lanes, after those on how far an opening looks, with a generator of their own as well.
+const LANE_ROUND: [Section; 10] = [
+    rough::lane_lines,
+    lane_walk::full_lanes,
+    lane_walk::comebacks,
+    lane_walk::full_desk,
+    lane_walk::rooms,
+    lane_walk::withdrawals,
+    lane_walk::lengths,
+    lane_walk::tickets,
+    lane_walk::boxes,
+    lane_walk::mixed,
+];
+
 /// A rehearsal with a desk of any sort, to try the call on that expires everything due.
 pub fn crowded(seed: u64) -> Rehearsal {
     let mut script = Script::new(seed);
     expall_walk::crowd(&mut script);
     script.rehearsal
+}
+
+/// The lines of a run, to hold the promise of a fair turn against.
+pub fn lane_run(seed: u64) -> Vec<String> {
+    let mut script = Script::new(seed);
+    lane_walk::run(&mut script);
+    script.lines.iter().map(|line| String::from_utf8_lossy(line).into_owned()).collect()
 }
 
 /// The script of a seed, of so many lines, each ended by one newline.
@@ -126,6 +148,7 @@ pub fn write(seed: u64, calls: usize) -> Vec<u8> {
     bench_walk::no_bench_yet(&mut script);
     expall_walk::no_desk_yet(&mut script);
     desk_walk::no_desk_yet(&mut script);
+    lane_walk::no_desk_yet(&mut script);
     receiver_walk::no_receiver_yet(&mut script);
     varia_walk::no_box_yet(&mut script);
     rough::longest_lines(&mut script);
@@ -136,6 +159,7 @@ pub fn write(seed: u64, calls: usize) -> Vec<u8> {
     let mut sheet_random = Random::new(seed.rotate_left(16) ^ 0x5348_4545_5400);
     let mut expall_random = Random::new(seed.rotate_left(48) ^ 0x4558_5041_4C4C);
     let mut look_random = Random::new(seed.rotate_left(8) ^ 0x4C4F_4F4B_0000);
+    let mut lane_random = Random::new(seed.rotate_left(24) ^ 0x4C41_4E45_5300);
     while script.lines.len() < calls {
         script.round(ROUND);
         script.round_with(&mut receiver_random, RECEIVER_ROUND);
@@ -144,6 +168,7 @@ pub fn write(seed: u64, calls: usize) -> Vec<u8> {
         script.round_with(&mut sheet_random, SHEET_ROUND);
         script.round_with(&mut expall_random, EXPALL_ROUND);
         script.round_with(&mut look_random, LOOK_ROUND);
+        script.round_with(&mut lane_random, LANE_ROUND);
     }
     script.lines.truncate(calls);
     script.lines.iter().flat_map(|line| [line.as_slice(), b"\n"].concat()).collect()

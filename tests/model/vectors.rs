@@ -120,6 +120,23 @@ ok moving=1
 ok short=? long=? out=163:short:6000
 ";
 
+/// The part of the same example that is about the lanes; requests have no folder yet.
+const LANE_CALLS: &str = "\
+lane.join 7 15 4 102 - 1000 3
+lane.join 8 15 5 48 3412 1000 3
+lane.dump
+lane.grant 300 00
+lane.withdraw 8 2
+";
+
+const LANE_ANSWERS: &str = "\
+ok lane=1 at=1
+ok lane=2 at=1
+ok last=16 lanes=7:15:4:102:-:1000|8:15:5:48:3412:1000|-|-|-|-|-|-|-|-|-|-|-|-|-|-
+no 73 buf=00
+no 55
+";
+
 /// The part of the same example that is about settings sheets.
 const SHEET_CALLS: &str = "\
 sheet.write 15:48:3:1:3412;15:50:1:2:0102 000000000000000000000000000000000000000000000000000000000000000000000000
@@ -168,6 +185,10 @@ pub fn report() -> (String, bool) {
         rests_of_dues(),
         looks(),
         looks_of_boxes(),
+        lanes(),
+        grants(),
+        granted_tickets(),
+        withdrawals(),
         filter_boxes(),
         filter_edges(),
         listings(),
@@ -446,6 +467,158 @@ fn looks_of_boxes() -> Vec<Check> {
         on_a_box("a wish of no module", "varia.new 9 161\n", &ask("status"), "no 11 count=0 "),
         on_a_box("59 without a count", &ask("short 6000"), "varia.long 1 500 200 a1", "no 59 buf=a1"),
         on_a_box("62 without a count", &full, "varia.att 1001 500 200 a1", "no 62 buf=a1"),
+    ]
+}
+
+/// A read of a job joins the lanes.
+fn join(job: u32) -> String {
+    format!("lane.join {job} 15 4 102 - 1000 0\n")
+}
+
+/// A grant at this clock with a room of so many bytes.
+fn grant(clock: u32, room: usize) -> String {
+    format!("lane.grant {clock} {}\n", if room == 0 { "-".to_string() } else { "a1".repeat(room) })
+}
+
+/// A check of how the last of these calls' answers begins.
+fn last_of(name: &'static str, calls: &[&str], want: &str) -> Check {
+    let said = answers(calls.concat().as_bytes());
+    let got = said.lines().last().unwrap_or("").chars().take(want.len()).collect();
+    Check { name, got, want: want.to_string() }
+}
+
+/// A check of what the lanes show after these calls: the lane last served, and what waits in each up to the last lane
+/// that has something.
+fn lanes_after(name: &'static str, calls: &[&str], last: usize, lanes: &[&str]) -> Check {
+    let said = answers(format!("{}lane.dump\n", calls.concat()).as_bytes());
+    let mut each = lanes.to_vec();
+    each.resize(16, "-");
+    let want = format!("ok last={last} lanes={}", each.join("|"));
+    Check { name, got: said.lines().last().unwrap_or("").to_string(), want }
+}
+
+/// The lanes' part of the call scripts' example, both sides of 16 jobs and of 4 requests, and the numbers of joining.
+fn lanes() -> Vec<Check> {
+    let sixteen: String = (1..=16).map(join).collect();
+    let four = join(1).repeat(4);
+    let wrong = |job: u32| format!("lane.join {job} 15 4 102 - 60001 0\n");
+    let request = "1:15:4:102:-:1000";
+    vec![
+        calls("the call scripts' example of lanes", LANE_CALLS, LANE_ANSWERS),
+        lanes_after("fresh lanes", &[], 16, &[]),
+        last_of("the 16th job", &[&sixteen], "ok lane=16 at=1"),
+        last_of("the 17th job", &[&sixteen, &join(17)], "no 71"),
+        last_of("a job with a lane, though none is free", &[&sixteen, &join(3)], "ok lane=3 at=2"),
+        last_of("the fourth request", &[&four], "ok lane=1 at=4"),
+        last_of("the fifth request", &[&four, &join(1)], "no 72"),
+        last_of("72 where no lane is free", &[&four, &sixteen, &join(1)], "no 72"),
+        last_of("job 0 joins", &["lane.join 0 161 8 102 00 0 0"], "no 10"),
+        last_of("module 161 joins", &["lane.join 1 161 8 102 00 0 0"], "no 11"),
+        last_of("a datagram joins", &["lane.join 1 160 8 102 00 0 0"], "no 12"),
+        last_of("a read with data joins", &["lane.join 1 160 4 102 00 0 0"], "no 13"),
+        last_of("241 bytes join", &[&format!("lane.join 1 15 5 48 {} 1000 0", "5e".repeat(241))], "no 13"),
+        last_of("240 bytes join", &[&format!("lane.join 1 15 5 48 {} 1000 0", "5e".repeat(240))], "ok lane=1 at=1"),
+        last_of("no waiting time joins", &["lane.join 1 160 4 102 - 0 0"], "no 14"),
+        last_of("14 ahead of 71", &[&sixteen, &wrong(17)], "no 14"),
+        last_of("14 ahead of 72", &[&four, &wrong(1)], "no 14"),
+        last_of("a folder that is no 32-bit number", &["lane.join 1 15 4 102 - 1000 4294967296"], "bad line"),
+        lanes_after("no refused request waits", &[&four, &join(1), &wrong(2)], 16, &[&[request; 4].join(",")]),
+        lanes_after("a fresh desk's lanes", &[&join(1), &join(2), &grant(0, 494), "desk.new\n"], 16, &[]),
+    ]
+}
+
+/// Which request a grant opens, what it answers, and its numbers.
+fn grants() -> Vec<Check> {
+    let (buf, one, two) = ("a1".repeat(486), "1:15:4:102:-:1000", "2:15:4:102:-:1000");
+    let (enough, short) = (grant(300, 494), grant(300, 493));
+    let jobs = |jobs: &[u32]| jobs.iter().map(|job| join(*job)).collect::<String>();
+    let open = format!("desk.open 9 15 4 102 - 1000 0 300 {}\n", "a1".repeat(20));
+    let full = open.repeat(95);
+    let book = "desk.reply 0da10f08663412965b0a 0000\n";
+    vec![
+        last_of(
+            "494 bytes of room",
+            &[&join(7), &enough],
+            &format!("ok job=7 address=161 n=8 count=1 buf=0d0fa104669ee60a{buf}"),
+        ),
+        last_of("493 bytes of room", &[&join(7), &short], &format!("no 73 buf={}", "a1".repeat(493))),
+        last_of("no room at all", &[&join(7), &grant(300, 0)], "no 73 buf=-"),
+        last_of("73 ahead of 74", &[&short], "no 73 buf=a1"),
+        last_of("nothing waiting", &[&enough], "no 74 buf=a1"),
+        last_of("nothing more waiting", &[&join(7), &enough, &enough], "no 74 buf=a1"),
+        last_of("the lowest lane at first", &[&jobs(&[5, 4, 3]), &enough], "ok job=5 address=161 "),
+        last_of("then the next", &[&jobs(&[5, 4, 3]), &enough.repeat(2)], "ok job=4 address=162 "),
+        last_of("by turns", &[&jobs(&[1, 1, 1, 2, 2]), &enough.repeat(3)], "ok job=1 address=163 "),
+        last_of("round to the first", &[&jobs(&[1, 1, 2]), &enough.repeat(3)], "ok job=1 address=163 "),
+        last_of("the only lane again", &[&jobs(&[1, 1]), &enough.repeat(2)], "ok job=1 address=162 "),
+        lanes_after("what a grant leaves", &[&jobs(&[1, 2, 2]), &enough], 1, &["-", &[two; 2].join(",")]),
+        lanes_after("an emptied lane for another", &[&jobs(&[2, 2]), &enough.repeat(2), &join(1)], 1, &[one]),
+        last_of("that has its turn last", &[&jobs(&[2, 3]), &enough, &join(1), &enough], "ok job=3 address=162 "),
+        last_of("a direct opening beside", &[&join(1), &open, &enough], "ok job=1 address=162 n=8 count=1 "),
+        last_of("no address for a grant", &[&full, &join(1), &enough], "no 15 count=95 buf=a1"),
+        last_of("73 ahead of 15", &[&full, &join(1), &short], "no 73 buf=a1"),
+        last_of("74 on a full desk", &[&full, &enough], "no 74 buf=a1"),
+        lanes_after("15 changes no lane", &[&full, &join(1), &enough], 16, &[one]),
+        last_of("after 15", &[&full, &join(1), &enough, book, &enough], "ok job=1 address=161 n=8 count=1 "),
+    ]
+}
+
+/// Tickets that grants opened: their waiting time, past which addresses they were opened, folders, and long telegrams.
+fn granted_tickets() -> Vec<Check> {
+    let (enough, two) = (grant(5000, 494), [join(1), join(2)].concat());
+    let open = |clock: u32| format!("desk.open 9 15 4 102 - 1 0 {clock} {}\n", "a1".repeat(20));
+    let closed = [open(0).repeat(95), "desk.cancel 9 161 5000\ndesk.cancel 9 162 4000\n".to_string()].concat();
+    let same_folder = "lane.join 7 15 4 102 - 1000 3\nlane.join 8 15 5 48 3412 1000 3\n";
+    let long = format!("lane.join 1 15 5 48 {} 1000 0\n", "5e".repeat(240));
+    vec![
+        last_of("not due before its time", &[&join(1), &enough, "desk.expire 5999"], "no 22"),
+        last_of("due from the grant on", &[&join(1), &enough, "desk.expire 6000"], "ok job=1 address=161"),
+        last_of(
+            "its ticket",
+            &[&join(1), &enough, "desk.dump"],
+            "ok turn=162 tickets=161:1:15:4:102:1000:5000 closed=-",
+        ),
+        last_of("a grant past one that rests", &[&closed, &two, &enough], "ok job=1 address=162 n=8 count=2 "),
+        last_of("no more then", &[&closed, &two, &enough.repeat(2)], "no 15 count=95 "),
+        last_of(
+            "until the other has rested",
+            &[&closed, &two, &enough, &grant(6000, 494)],
+            "ok job=2 address=161 n=8 count=94 ",
+        ),
+        last_of(
+            "folders are passed over",
+            &[same_folder, &enough.repeat(2)],
+            "ok job=8 address=162 n=10 count=1 buf=0d0fa205303412",
+        ),
+        last_of("240 bytes granted", &[&long, &enough], "ok job=1 address=161 n=488 count=1 buf=0d0fa105305e9e5e9e"),
+    ]
+}
+
+/// What a withdrawal leaves, and where there is nothing to withdraw.
+fn withdrawals() -> Vec<Check> {
+    let register = |register: u8| format!("lane.join 1 15 4 {register} - 1000 0\n");
+    let three: String = [10, 20, 30].into_iter().map(register).collect();
+    let (first, second, third) = ("1:15:4:10:-:1000", "1:15:4:20:-:1000", "1:15:4:30:-:1000");
+    let withdraw = |place: &str| format!("lane.withdraw 1 {place}\n");
+    let left =
+        |name, place: &str, left: [&str; 2]| lanes_after(name, &[&three, &withdraw(place)], 16, &[&left.join(",")]);
+    let none = |name, calls: &[&str]| last_of(name, calls, "no 55");
+    vec![
+        last_of("a withdrawal", &[&three, &withdraw("3")], "ok"),
+        left("without the first", "1", [second, third]),
+        left("without the second", "2", [first, third]),
+        left("without the third", "3", [first, second]),
+        none("place 0", &[&three, &withdraw("0")]),
+        none("one place over", &[&three, &withdraw("4")]),
+        none("a place past 32 bits", &[&three, &withdraw("4294967297")]),
+        none("the largest place", &[&three, &withdraw("18446744073709551615")]),
+        last_of("no place past it", &[&three, &withdraw("18446744073709551616")], "bad line"),
+        none("another job's", &[&three, "lane.withdraw 2 1"]),
+        none("job 0's", &["lane.withdraw 0 1"]),
+        none("a granted one", &[&join(1), &grant(0, 494), &withdraw("1")]),
+        lanes_after("the only one", &[&join(1), &join(2), &withdraw("1")], 16, &["-", "2:15:4:102:-:1000"]),
+        last_of("its lane is another's", &[&join(1), &join(2), &withdraw("1"), &join(3)], "ok lane=1 at=1"),
+        lanes_after("no turn is moved by it", &[&join(1), &join(1), &grant(0, 494), &withdraw("1")], 1, &[]),
     ]
 }
 

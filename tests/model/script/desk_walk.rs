@@ -4,6 +4,7 @@ use super::{buffer, enough, room, too_little, Script};
 use crate::calls::hex;
 use crate::desk::{Desk, Request, Ticket, FIRST_HOST, HOSTS, LAST_HOST};
 use crate::faults::{broken, data, flip_within_16, length, spoil, BREAKS};
+use crate::lanes::Lanes;
 use crate::random::Random;
 use crate::telegram::{frame, Message, No, MOST_DATA};
 use crate::varia::Varia;
@@ -147,6 +148,11 @@ impl<'a> Walk<'a> {
     /// The desk as the script has it now.
     pub fn desk(&self) -> &Desk {
         &self.script.rehearsal.desk
+    }
+
+    /// The lanes as the script has them now.
+    pub fn lanes(&self) -> &Lanes {
+        &self.script.rehearsal.lanes
     }
 
     /// The box as the script has it now, if there is one.
@@ -485,7 +491,7 @@ impl<'a> Walk<'a> {
 }
 
 /// Makes a request refusable by this row.
-fn spoil_request(random: &mut Random, request: &mut Request, row: No) {
+pub fn spoil_request(random: &mut Random, request: &mut Request, row: No) {
     match row {
         10 => request.job = 0,
         11 => request.module = random.pick(&[0, 161, 161, 162, 255]),

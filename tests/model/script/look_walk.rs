@@ -81,7 +81,7 @@ pub fn resting(script: &mut Script) {
 }
 
 /// From the turn on so many addresses are cancelled, so many stay open, and the one after them is booked.
-fn rest_before_a_free_one(walk: &mut Walk, resting: u8, open: u8) {
+pub fn rest_before_a_free_one(walk: &mut Walk, resting: u8, open: u8) {
     let free = at(walk, resting + open + 1);
     for distance in 1..=resting {
         let address = at(walk, distance);

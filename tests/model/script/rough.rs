@@ -4,6 +4,7 @@ use super::receiver_walk::MOST_FED;
 use super::{buffer, Script};
 use crate::calls::{hex, LONGEST_LINE, MOST_ENTRIES, MOST_NAMED};
 use crate::random::Random;
+use crate::telegram::LONGEST_TELEGRAM;
 
 /// One right line of each call.
 const SAMPLES: [&str; 17] = [
@@ -52,6 +53,15 @@ const SHEET_SAMPLES: [&str; 4] = [
 
 /// The same of the call that expires everything due.
 const EXPALL_SAMPLES: [&str; 2] = ["desk.expall 109 3", "desk.expall 4294967295 0"];
+
+/// The same of the calls on the lanes, but for a grant with enough room.
+const LANE_SAMPLES: [&str; 5] = [
+    "lane.join 7 15 4 102 - 1000 3",
+    "lane.join 8 15 5 48 3412 1000 3",
+    "lane.grant 300 a1a2a3",
+    "lane.withdraw 8 1",
+    "lane.dump",
+];
 
 /// Words that are wrong in some places or in all of them.
 const ODD_WORDS: [&str; 32] = [
@@ -225,6 +235,50 @@ const NO_EXPALL_CALLS: [&str; 24] = [
     "Desk.expall 109 3",
 ];
 
+/// Lines that are no calls on the lanes, and numbers one past their type.
+const NO_LANE_CALLS: [&str; 40] = [
+    "lane",
+    "lane.",
+    "lane.new",
+    "lane.join",
+    "lane.join 7 15 4 102 - 1000",
+    "lane.join 7 15 4 102 1000 3",
+    "lane.join 7 15 4 102 - 1000 -",
+    "lane.join 7 15 4 102 - 1000 3 ",
+    "lane.join 7 15 4 102 - 1000 3 300",
+    "lane.join 7 15 4 102 -  1000 3",
+    "lane.join 7 15 4 102  1000 3",
+    "lane.join 7 15 5 102 0 1000 3",
+    "lane.join 7 15 5 102 0A 1000 3",
+    "lane.join 4294967296 15 4 102 - 1000 3",
+    "lane.join 7 256 4 102 - 1000 3",
+    "lane.join 7 15 256 102 - 1000 3",
+    "lane.join 7 15 4 256 - 1000 3",
+    "lane.join 7 15 4 102 - 4294967296 3",
+    "lane.join 7 15 4 102 - 1000 4294967296",
+    "lane.join -1 15 4 102 - 1000 3",
+    "lane.join 7 15 4 102 - 1000 -1",
+    "lane.grant",
+    "lane.grant 300",
+    "lane.grant 300 ",
+    "lane.grant 300 a1a",
+    "lane.grant 300 a1 -",
+    "lane.grant - a1",
+    "lane.grant -1 a1",
+    "lane.grant 4294967296 a1",
+    "lane.withdraw",
+    "lane.withdraw 8",
+    "lane.withdraw 8 ",
+    "lane.withdraw 8 -",
+    "lane.withdraw 8 -1",
+    "lane.withdraw 8 1 1",
+    "lane.withdraw 4294967296 1",
+    "lane.withdraw 8 18446744073709551616",
+    "lane.dump 0",
+    "lane.dump ",
+    "Lane.dump",
+];
+
 /// Every call with numbers from all over their types.
 pub fn any_numbers(script: &mut Script) {
     for _ in 0..9 {
@@ -390,6 +444,48 @@ pub fn expall_lines(script: &mut Script) {
     script.call("desk.dump");
     script.call(format!("desk.expall 4294967295 {MOST_ENTRIES:040}"));
     script.call("desk.dump");
+}
+
+/// The calls on the lanes with any words, then lines that are none of them, or nearly, data as long as a line can have
+/// them, and a place with zeros before it; the lanes are shown before and after.
+pub fn lane_lines(script: &mut Script) {
+    script.call("desk.new");
+    for which in (0..6 * 4).map(|which| which % 4) {
+        let line = any_lane_call(&mut script.random, which);
+        script.call(line);
+    }
+    script.call("lane.join 8 15 5 48 3412 1000 3");
+    script.call("lane.dump");
+    let enough = format!("lane.grant 300 {}", hex(&buffer(LONGEST_TELEGRAM)));
+    for sample in LANE_SAMPLES.into_iter().chain([enough.as_str()]).cycle().take(6 * 8) {
+        let line = amiss(&mut script.random, sample);
+        script.call(line);
+    }
+    script.call("lane.dump");
+    for line in NO_LANE_CALLS {
+        script.call(line);
+    }
+    for bytes in [300, (LONGEST_LINE - "lane.join 9 15 5 48  1 0".len()) / 2] {
+        script.call(format!("lane.join 9 15 5 48 {} 1 0", "5e".repeat(bytes)));
+    }
+    script.call("lane.join 9 15 5 48 - 1 0");
+    script.call(format!("lane.withdraw 9 {:040}", 1));
+    script.call("lane.dump");
+}
+
+/// A call on the lanes with words of any value; jobs and places are low in half of the cases.
+fn any_lane_call(random: &mut Random, which: usize) -> String {
+    let (module, type_no, register) = (random.byte(), random.byte() % 11, random.byte());
+    let (wait, folder, clock) = (random.word() % 70000, random.word(), random.word());
+    let job = if random.one_in(2) { random.word() } else { random.word() % 3 };
+    let place = if random.one_in(2) { random.bits() } else { random.bits() % 3 };
+    let (bytes, room) = (any_bytes(random), random.below(600));
+    match which {
+        0 => format!("lane.join {job} {module} {type_no} {register} {bytes} {wait} {folder}"),
+        1 => format!("lane.grant {clock} {}", hex(&buffer(room))),
+        2 => format!("lane.withdraw {job} {place}"),
+        _ => "lane.dump".to_string(),
+    }
 }
 
 /// A setting with numbers of any value, as a call line names it.
