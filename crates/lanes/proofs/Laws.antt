@@ -2,29 +2,32 @@
 -- over many calls in the crate `turns`.
 -- Assumes nothing.
 use mathlib.Core.Path.{_≡_, refl, sym, ap, ap₂, _∙_}
-use mathlib.Core.Bool.{Bool, true, false}
-use mathlib.Core.List.{List, [], _∷_, _++_}
+use mathlib.Core.List.{List}
+use mathlib.Core.Logic.{⊎-elim}
 use mathlib.Core.Option.{Option, some, none}
-use Prim.Native.Nat.{ℕ, zero, suc, _+_, _-_, _%_, _≤_, _<_}
-use native.Mathlib.Omega.{arith}
-use lib.ListN.{length, take, set}
+use Prim.Native.Nat.{ℕ, _+_, _-_, _<_}
+use lib.ListN.{length}
 use Rattle.rows.proofs.Laws.{clash}
 use Rattle.rows.proofs.Settled.{settled}
 use Rattle.rows.specs.Settled.{Settled}
 use Rattle.request.specs.declared.Fault.{Fault as Asked}
 use Rattle.request.specs.declared.Request.{Request}
 use Rattle.request.specs.Request.{faultNumber as askNumber}
+use Rattle.rows.specs.Rows.{Ranked}
+use Rattle.desk.proofs.Count.{opened-count, refused-count}
 use Rattle.desk.proofs.Laws.{opens-settled, open-refusal-keeps}
 use Rattle.desk.specs.Desk.{faultNumber as deskNumber}
-use Rattle.desk.specs.Open.{Opens}
+use Rattle.desk.specs.Open.{distanceOf, openTold}
 use Rattle.desk.specs.declared.AfterOpen.{AfterOpen}
 use Rattle.desk.specs.declared.Desk.{Desk}
 use Rattle.desk.specs.declared.Fault.{Fault as DeskFault}
+use Rattle.desk.specs.declared.Fault.the-variants.{NoneFree}
 use Rattle.desk.specs.declared.Opening.{Opening}
 use Rattle.desk.specs.declared.Opening.the-variants.{Opened, Refused as NotOpened}
-use Rattle.lanes.specs.Lanes.{Fresh, Numbers, freshLanes, laneAt, waitingAt, dataOf, queueIn, withLast, without, nextAt, ownLane, faultNumber}
+use Rattle.lanes.proofs.Ranking.{grant-ranked}
+use Rattle.lanes.specs.Lanes.{Fresh, Numbers, freshLanes, laneAt, waitingAt, dataOf, ownLane}
 use Rattle.lanes.specs.Join.{joinRefusal, joinAnswer, joinLanes, laneFor, Joins, joinTold}
-use Rattle.lanes.specs.Grant.{grantRefusal, nextPlace, movesOn, servedFrom, fromDesk, GrantsBy, Grants, Serves, grantTold}
+use Rattle.lanes.specs.Grant.{IsShortBuffer, IsNothingWaiting, grantRows, grantRefusal, nextPlace, movesOn, servedFrom, fromDesk, GrantsBy, Grants, grantTold}
 use Rattle.lanes.specs.Withdraw.{withdrawRefusal, withdrawAnswer, withdrawLanes, Withdraws, withdrawTold}
 use Rattle.lanes.specs.declared.AfterGrant.{AfterGrant}
 use Rattle.lanes.specs.declared.AfterJoin.{AfterJoin}
@@ -35,7 +38,6 @@ use Rattle.lanes.specs.declared.Granting.{Granting}
 use Rattle.lanes.specs.declared.Granting.the-variants.{Granted, Refused as NotGranted}
 use Rattle.lanes.specs.declared.Joining.{Joining}
 use Rattle.lanes.specs.declared.Joining.the-variants.{Joined, Refused as NotJoined}
-use Rattle.lanes.specs.declared.Lane.{Lane}
 use Rattle.lanes.specs.declared.Lanes.{Lanes}
 use Rattle.lanes.specs.declared.Withdrawing.{Withdrawing}
 use Rattle.lanes.specs.declared.Withdrawing.the-variants.{Done, Refused as NotDone}
@@ -73,6 +75,46 @@ grant-refusal-keeps lanes desk clock room r room′ f g e = by (grantRefusal lan
         go (NotOpened h) p =
             let kept = open-refusal-keeps desk _ _ clock room (g .0) room′ (g .1) h p in
             (g .2 .1 ∙ rw p, g .2 .2 ∙ kept .0, kept .1)
+
+-- ---- 02, #108: "Opening reports how many addresses it considered", and "Refusals carry it too: 95 with 15"; 0 where the desk was not asked
+
+module _ (lanes : Lanes) (desk : Desk) (clock : ℕ) (room : List ℕ) (r : AfterGrant) (room′ : List ℕ) (g : Grants lanes desk clock room r room′) where
+  pub granted-count : (job address n : ℕ) → r .answer ≡ Granted job address n → r .count ≡ distanceOf desk clock + 1
+  granted-count job address n e = by (grantRefusal lanes (length room)) g
+    where
+      by : (x : Option Fault) → GrantsBy x lanes desk clock room r room′ → r .count ≡ distanceOf desk clock + 1
+      by (some f) g = let both : Granted job address n ≡ NotGranted f = sym e ∙ g .0 .0 in clash (cc)
+      by none g = go (g .0 .answer) refl
+        where
+          go : (a : Opening) → g .0 .answer ≡ a → r .count ≡ distanceOf desk clock + 1
+          go (Opened there m) p = g .2 .3 ∙ opened-count desk _ _ clock room (g .0) room′ (g .1) there m p
+          go (NotOpened f) p = let both : Granted job address n ≡ NotGranted (AtDesk f) = sym e ∙ g .2 .0 ∙ ap (fromDesk _) p in clash (cc)
+
+  pub none-free-count : r .answer ≡ NotGranted (AtDesk NoneFree) → r .count ≡ 95
+  unfolding grantRows
+  none-free-count e = by (grantRefusal lanes (length room)) (grant-ranked lanes (length room)) g
+    where
+      by : (x : Option Fault) → Ranked (grantRows lanes (length room)) x → GrantsBy x lanes desk clock room r room′ → r .count ≡ 95
+      by (some f) first g =
+          let is : NotGranted (AtDesk NoneFree) ≡ NotGranted f = sym e ∙ g .0 .0 in
+          ⊎-elim (λ short. let z = short .1 in clash (cc)) (λ later. ⊎-elim (λ nothing. let z = nothing .1 in clash (cc)) (λ past. absurd (past .1)) (later .1)) first
+      by none first g = go (g .0 .answer) refl
+        where
+          go : (a : Opening) → g .0 .answer ≡ a → r .count ≡ 95
+          go (Opened there m) p = let both : NotGranted (AtDesk NoneFree) ≡ Granted _ there m = sym e ∙ g .2 .0 ∙ ap (fromDesk _) p in clash (cc)
+          go (NotOpened f) p =
+              let both : NotGranted (AtDesk NoneFree) ≡ NotGranted (AtDesk f) = sym e ∙ g .2 .0 ∙ ap (fromDesk _) p in
+              let same : NoneFree ≡ f = cc in
+              g .2 .3 ∙ refused-count desk _ _ clock room (g .0) room′ (g .1) 15 (ap openTold (p ∙ ap NotOpened (sym same))) .1 refl
+
+  pub not-asked-count : (length room < 494 → r .count ≡ 0) × (((place : ℕ) → place < 16 → laneAt lanes place .size ≡ 0) → r .count ≡ 0)
+  unfolding grantRows IsShortBuffer IsNothingWaiting
+  not-asked-count = by (grantRefusal lanes (length room)) (grant-ranked lanes (length room)) g
+    where
+      by : (x : Option Fault) → Ranked (grantRows lanes (length room)) x → GrantsBy x lanes desk clock room r room′
+          → (length room < 494 → r .count ≡ 0) × (((place : ℕ) → place < 16 → laneAt lanes place .size ≡ 0) → r .count ≡ 0)
+      by (some f) first g = (λ h. g .0 .3, λ h. g .0 .3)
+      by none neither g = (λ h. absurd (neither .0 h), λ h. absurd (neither .1 .0 h))
 
 -- ---- the numbers that answers tell
 

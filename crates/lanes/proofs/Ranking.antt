@@ -1,15 +1,15 @@
 -- Rows 71 to 74 and 55 are tested as the paper words them, in the order of each call: what a call refuses is what its rows give.
 -- Assumes nothing.
 use mathlib.Core.Path.{_≡_, refl, sym, ap, _∙_, subst}
-use mathlib.Core.Bool.{Bool, true, false, cond, not, _&&_, _||_, true≢false}
-use mathlib.Core.List.{List, [], _∷_, _++_}
+use mathlib.Core.Bool.{Bool, true, false, not, true≢false}
+use mathlib.Core.List.{List, [], _∷_}
 use mathlib.Core.Logic.{_⊎_, inl, inr, ⊎-elim}
 use mathlib.Core.Option.{Option, some, none}
-use Prim.Native.Nat.{ℕ, suc, _+_, _-_, _%_, _≤_, _<_}
+use Prim.Native.Nat.{ℕ, _+_, _-_, _%_, _≤_, _<_}
 use native.Mathlib.Decide.{decLt}
 use native.Mathlib.Omega.{arith}
 use borrow.Author.Tests.{leb-true, leb-false, lt-ltb, le-ltb}
-use lib.Dec.{eqb, leb, ltb}
+use lib.Dec.{eqb, leb}
 use lib.ListN.{length}
 use Rattle.first.proofs.Laws.{Ended, ended, first-at}
 use Rattle.request.proofs.Laws.{ask-ranked}
@@ -240,6 +240,11 @@ pub their-plainly : {lanes : Lanes} {job place : ℕ} → TheirLane lanes job pl
     × (waitingAt (laneAt lanes place) 0 .asked .job ≡ job)
     × ((other : ℕ) → other < place → (laneAt lanes other .size ≡ 0 → ⊥) × (waitingAt (laneAt lanes other) 0 .asked .job ≡ job) → ⊥)
 their-plainly t = (t .within, t .theirs .0, t .theirs .1, t .lowest)
+
+-- and back: it stands in the rows of 72 and 55, so more in it would weaken them
+pub their-again : (lanes : Lanes) (job place : ℕ) → place < 16 → (laneAt lanes place .size ≡ 0 → ⊥) → waitingAt (laneAt lanes place) 0 .asked .job ≡ job
+    → ((other : ℕ) → other < place → (laneAt lanes other .size ≡ 0 → ⊥) × (waitingAt (laneAt lanes other) 0 .asked .job ≡ job) → ⊥) → TheirLane lanes job place
+their-again lanes job place near holds mine before = record { within = near; theirs = (holds, mine); lowest = before }
 
 pub join-plainly : (lanes : Lanes) (asked : Request) (bytes : List ℕ) (r : AfterJoin) → Joins lanes asked bytes r
     → Numbered

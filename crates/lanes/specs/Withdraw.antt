@@ -6,7 +6,7 @@ use mathlib.Core.List.{List, [], _∷_}
 use mathlib.Core.Option.{Option, some, none}
 use Prim.Native.Nat.{ℕ, _-_, _≤_}
 use lib.Dec.{eqb, leb, ltb}
-use Rattle.rows.specs.Rows.{Row, row, Test, test, firstOf}
+use Rattle.rows.specs.Rows.{Row, row, test, firstOf}
 use Rattle.lanes.specs.Lanes.{TheirLane, laneAt, ownLane, without, withLane, faultNumber}
 use Rattle.lanes.specs.declared.AfterWithdraw.{AfterWithdraw}
 use Rattle.lanes.specs.declared.Fault.{Fault}

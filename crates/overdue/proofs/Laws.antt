@@ -1,7 +1,7 @@
 -- What is promised of expiring everything that is due: the laws that callers may cite.
 -- Assumes nothing.
 use mathlib.Core.Path.{_≡_, refl, sym, ap, subst, _∙_}
-use mathlib.Core.Bool.{true, false, true≢false}
+use mathlib.Core.Bool.{true, true≢false}
 use mathlib.Core.List.{List, [], _∷_, _++_}
 use mathlib.Core.Logic.{_≢_, _⊎_, inl, inr, ⊎-elim}
 use Prim.Native.Nat.{ℕ, zero, suc, _+_, _-_, _*_, _/_, _≤_, _<_}
@@ -441,7 +441,12 @@ nothing-done desk clock list r list′ p why = ⊎-elim
 -- ---- what `Sweeping` and `Entered` say, said out of the call
 
 pub sweeps-plainly : (desk : Desk) (clock : ℕ) (list : List ℕ) (r : Swept) (list′ : List ℕ) → ExpiresAll desk clock list r list′
-    → ((i : ℕ) → i < r .count → (place : ℕ) × (place < 95) × (addressOf list′ i ≡ 161 + place) × IsDue clock (ticketOn desk (161 + place)) × (jobOf list′ i ≡ ticketOn desk (161 + place) .asked .job))
+    → ((i : ℕ) → i < r .count
+    → (place : ℕ)
+    × (place < 95)
+    × (addressOf list′ i ≡ 161 + place)
+    × IsDue clock (ticketOn desk (161 + place))
+    × (jobOf list′ i ≡ ticketOn desk (161 + place) .asked .job))
     × ((i : ℕ) → suc i < r .count → addressOf list′ i < addressOf list′ (suc i))
     × ((i : ℕ) → i < r .count → ticketOn (r .desk) (addressOf list′ i) ≡ withdrawnAt clock)
     × ((place : ℕ) → ((i : ℕ) → i < r .count → addressOf list′ i ≢ 161 + place) → ticketAt (r .desk) place ≡ ticketAt desk place)

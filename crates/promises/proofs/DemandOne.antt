@@ -84,7 +84,7 @@ pub use Rattle.sheet.proofs.Plain.{told-number as sheet-told-number}
 pub use Rattle.sheet_writer.proofs.Laws.{told-number as sheet-writer-told-number}
 pub use Rattle.varia.proofs.Laws.{numbers-are as box-numbers-are, told-number as box-told-number}
 pub use Rattle.lanes.proofs.Laws.{numbers-are as lanes-numbers-are, told-number as lanes-told-number}
-pub use Rattle.lanes.proofs.Ranking.{join-exactly, withdraw-exactly, join-plainly, withdraw-plainly, their-plainly}
+pub use Rattle.lanes.proofs.Ranking.{join-exactly, withdraw-exactly, join-plainly, withdraw-plainly, their-plainly, their-again}
 pub use Rattle.turns.proofs.Laws.{grant-exactly}
 pub use Rattle.varia.proofs.Laws.{set-refused as edge-refused, attenuate-refused, set-passed-up, attenuate-passed-up, monitor-passed-up, status-passed-up}
 -- 02, #105: with 3 the place of the first faulty 94, and with no other number a place

@@ -78,6 +78,10 @@ pub use Rattle.turns.proofs.Fate.{opened-by, withdrawn-by, ended-in, opened-as-
 pub use Rattle.turns.proofs.Calls.{joined-right, granted-right, withdrawn-right}
 pub use Rattle.turns.proofs.Plainly.{less-plainly, waiting-first, waiting-joined, waiting-opened, waiting-elsewhere, waiting-withdrew, right-plainly}
 pub use Rattle.turns.proofs.Plainly.{orderly-plainly, in-turn-plainly, counts-plainly, opened-by-plainly, ended-plainly}
+pub use Rattle.turns.proofs.Plainly.{all-after-plainly, all-answered-plainly, counted-plainly, fate-plainly, grant-counts, queue-plainly, kept-plainly}
+pub use Rattle.turns.proofs.Plainly.{desk-after, reaches-plainly, all-reach-plainly, saw-plainly, numbers-plainly}
+pub use Rattle.turns.proofs.Plainly.{joined-at-plainly, granted-at-plainly, withdrawn-at-plainly}
+pub use Rattle.lanes.proofs.Laws.{granted-count, none-free-count, not-asked-count}
 pub use Rattle.turns.proofs.Reached.{first-reached, fourth-reached}
 pub use Rattle.turns.proofs.Laws.{any-turns, each-once, at-desk, any-night-behind, joins-after, grants-after, withdraws-after}
 -- ---- 02, #104: the filter box asks its module, through the desk, as its name says, and goes by what the desk answered

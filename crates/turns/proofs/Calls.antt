@@ -2,28 +2,24 @@
 -- said out.
 -- Assumes nothing.
 use mathlib.Core.Path.{_≡_, refl, sym, ap, subst, _∙_}
-use mathlib.Core.Bool.{Bool, true, false}
-use mathlib.Core.List.{List, [], _∷_, _++_}
-use mathlib.Core.Logic.{_≢_, _⊎_, inl, inr}
+use mathlib.Core.List.{List, _∷_}
+use mathlib.Core.Logic.{_⊎_, inl, inr}
 use mathlib.Core.Option.{Option, some, none}
-use Prim.Native.Nat.{ℕ, zero, suc, _+_, _-_, _%_, _≤_, _<_}
+use Prim.Native.Nat.{ℕ, _+_, _-_, _<_}
 use native.Mathlib.Decide.{decLt}
 use native.Mathlib.Omega.{arith}
 use borrow.Author.Tests.{eqb-true, eqb-false}
-use lib.ListN.{length, take, replicate}
+use lib.ListN.{length}
 use lib.Seq.{length-take-le}
 use Rattle.rows.proofs.Laws.{clash}
-use Rattle.rows.specs.Rows.{row, Numbered}
-use Rattle.request.specs.Request.{askRefusal, IsNoJob, IsNotAModule, IsNotARequest, IsWrongData, IsWrongWait, askRows}
 use Rattle.request.specs.declared.Request.{Request}
-use Rattle.lent.specs.Lent.{over}
 use Rattle.desk.specs.Open.{Opens}
 use Rattle.desk.specs.declared.AfterOpen.{AfterOpen}
 use Rattle.desk.specs.declared.Desk.{Desk}
 use Rattle.desk.specs.declared.Opening.{Opening}
 use Rattle.desk.specs.declared.Opening.the-variants.{Opened, Refused as NotOpened}
 use Rattle.lanes.proofs.Ranking.{own-is, for-own, for-empty, empty-ended, not-theirs-before, passed-empty, next-waits}
-use Rattle.lanes.specs.Lanes.{Empty, Belongs, TheirLane, laneAt, waitingAt, waitingWith, dataOf, queueIn, withLast, without, ownLane, emptyLane}
+use Rattle.lanes.specs.Lanes.{Empty, Belongs, TheirLane, laneAt, waitingWith, dataOf, queueIn, withLast, without, ownLane, emptyLane}
 use Rattle.lanes.specs.Join.{joinRefusal, joinAnswer, joinLanes, laneFor, Joins}
 use Rattle.lanes.specs.Grant.{grantRefusal, nextDistance, nextPlace, movesOn, servedFrom, fromDesk, Grants, GrantsBy}
 use Rattle.lanes.specs.Withdraw.{withdrawRefusal, withdrawAnswer, withdrawLanes, Withdraws}
@@ -37,8 +33,8 @@ use Rattle.lanes.specs.declared.Lane.{Lane}
 use Rattle.lanes.specs.declared.Lanes.{Lanes}
 use Rattle.lanes.specs.declared.Waiting.{Waiting}
 use Rattle.lanes.specs.declared.Withdrawing.the-variants.{Done, Refused as NotDone}
-use Rattle.turns.specs.Turns.{Hall, Orderly, oldest}
-use Rattle.turns.specs.Queue.{Event, joined, opened, withdrew, nothing, less, waitingOf, Right, Oldest}
+use Rattle.turns.specs.Turns.{Orderly, oldest}
+use Rattle.turns.specs.Queue.{less}
 use Rattle.turns.specs.Outcome.{JoinedAt, GrantedAt, WithdrawnAt}
 use Rattle.turns.proofs.Arrays.{put-there, put-other}
 use Rattle.turns.proofs.Orderly.{fit-to-join, fit-to-grant, fit-to-withdraw}

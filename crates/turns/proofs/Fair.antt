@@ -9,12 +9,12 @@ use mathlib.Core.Option.{Option, some, none}
 use Prim.Native.Nat.{ℕ, zero, suc, _+_, _-_, _*_, _%_, _≤_, _<_}
 use native.Mathlib.Decide.{decLt}
 use native.Mathlib.Omega.{arith}
-use borrow.Author.Tests.{eq-eqb, ne-eqb, eqb-true, eqb-false, lt-ltb, le-ltb}
-use lib.Dec.{eqb, ltb}
+use borrow.Author.Tests.{eq-eqb, ne-eqb, lt-ltb, le-ltb}
+use lib.Dec.{eqb}
 use lib.ListN.{length}
 use Rattle.rows.proofs.Laws.{clash}
 use Rattle.lanes.proofs.Ranking.{passed-empty}
-use Rattle.lanes.specs.Lanes.{Empty, freshLanes, laneAt, waitingAt, waitingWith, withLast, without, ownLane}
+use Rattle.lanes.specs.Lanes.{freshLanes, laneAt, waitingAt, waitingWith, withLast, without, ownLane}
 use Rattle.lanes.specs.Join.{joinRefusal, joinLanes, laneFor}
 use Rattle.lanes.specs.Grant.{grantRefusal, nextDistance, nextPlace, placeAfter, movesOn, servedFrom}
 use Rattle.lanes.specs.Withdraw.{withdrawRefusal, withdrawLanes}
@@ -22,7 +22,6 @@ use Rattle.desk.specs.declared.Desk.{Desk}
 use Rattle.lanes.specs.declared.Fault.{Fault}
 use Rattle.lanes.specs.declared.Lane.{Lane}
 use Rattle.lanes.specs.declared.Lanes.{Lanes}
-use Rattle.lanes.specs.declared.Waiting.{Waiting}
 use Rattle.request.specs.declared.Request.{Request}
 use Rattle.turns.specs.Turns.{Hall, Call, joins, grants, withdraws, atDesk, after, granted, allAfter, oldest, openedWith, Orderly}
 use Rattle.turns.specs.Fair.{turnUsed, counts, counted, Fate, waits, opened, withdrawn, nearer, takenAt, atGrant, atWithdrawal, fateBy, fate}
@@ -273,7 +272,8 @@ all-calls hall (c ∷ cs) lane place place′ hl o h e =
     by (waits p) f e again =
         let one = one-call lane place p hl hall c o h f in
         let more = again p (one .held) e in
-        (fewer (cond (counts hall c) 1 0) (counted (after hall c) cs) _ (turnsTo (after hall c .lanes) lane p) (turnsTo (hall .lanes) lane place) (one .turns) (more .0), more .1, more .2 ∙ one .same)
+        let less = fewer (cond (counts hall c) 1 0) (counted (after hall c) cs) _ (turnsTo (after hall c .lanes) lane p) (turnsTo (hall .lanes) lane place) (one .turns) (more .0) in
+        (less, more .1, more .2 ∙ one .same)
       where
         fewer : (u n x y z : ℕ) → u + y ≤ z → n + x ≤ y → u + n + x ≤ z
         fewer u n x y z a b = omega arith

@@ -6,7 +6,7 @@ use mathlib.Core.List.{List, [], _∷_, _++_}
 use mathlib.Core.Option.{Option, some, none}
 use Prim.Native.Nat.{ℕ, zero, suc, _+_, _-_, _≤_, _<_}
 use native.Mathlib.Omega.{arith}
-use borrow.Author.Tests.{eqb-true, eq-eqb, ne-eqb}
+use borrow.Author.Tests.{eqb-true}
 use lib.Dec.{eqb, ltb}
 use lib.ListN.{length}
 use Rattle.rows.proofs.Laws.{clash}
@@ -20,10 +20,9 @@ use Rattle.lanes.specs.declared.AfterGrant.{AfterGrant}
 use Rattle.lanes.specs.declared.Fault.{Fault}
 use Rattle.lanes.specs.declared.Waiting.{Waiting}
 use Rattle.turns.specs.Turns.{Hall, Call, joins, grants, withdraws, atDesk, after, allAfter, oldest, openedWith, Orderly}
-use Rattle.turns.specs.Fair.{turnUsed, counts, counted, Fate, waits, opened, withdrawn, takenAt, atGrant, atWithdrawal, fateBy, fate, OpenedBy, Ended}
-use Rattle.turns.proofs.Arrays.{same-or-not}
+use Rattle.turns.specs.Fair.{turnUsed, counts, Fate, waits, opened, withdrawn, takenAt, atGrant, atWithdrawal, fateBy, fate, OpenedBy, Ended}
 use Rattle.turns.proofs.Fair.{all-calls}
-use Rattle.turns.proofs.Orderly.{fit-to-withdraw, any-orderly}
+use Rattle.turns.proofs.Orderly.{fit-to-withdraw}
 
 -- ---- by a grant
 

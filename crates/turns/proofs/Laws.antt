@@ -5,13 +5,13 @@ use mathlib.Core.Path.{_≡_, refl, sym, ap, subst, _∙_}
 use mathlib.Core.Bool.{Bool, true, false, cond}
 use mathlib.Core.List.{List, [], _∷_, _++_}
 use mathlib.Core.Option.{Option, some, none}
-use Prim.Native.Nat.{ℕ, zero, suc, _+_, _-_, _≤_, _<_}
+use Prim.Native.Nat.{ℕ, suc, _+_, _-_, _≤_, _<_}
 use native.Mathlib.Omega.{arith}
 use borrow.Author.Tests.{le-ltb, eqb-true}
-use lib.Dec.{eqb, leb, ltb}
+use lib.Dec.{eqb, leb}
 use lib.ListN.{length, length-append}
-use Rattle.rows.proofs.Laws.{Decides, ranked, _otherwise_, ranked-append, ranked-up, numbered}
-use Rattle.rows.specs.Rows.{Row, row, Ranked, Numbered, test, firstOf, orLater, passedUp, raised}
+use Rattle.rows.proofs.Laws.{ranked, _otherwise_, ranked-append, numbered}
+use Rattle.rows.specs.Rows.{Row, row, Ranked, Numbered, test, firstOf, orLater, raised}
 use Rattle.request.proofs.Laws.{allowed-writable}
 use Rattle.request.specs.Request.{askRefusal}
 use Rattle.request.specs.declared.Request.{Request}
@@ -27,12 +27,11 @@ use Rattle.desk.specs.declared.Opening.{Opening}
 use Rattle.desk.specs.declared.Opening.the-variants.{Opened, Refused as NotOpened}
 use Rattle.nights.proofs.Laws.{any-night, opens-after, then-all}
 use Rattle.nights.specs.Night.{Night, afterAll, answeredAll}
-use Rattle.nights.specs.Night.{Call as DeskCall}
 use Rattle.lanes.proofs.Ranking.{grant-ranked}
-use Rattle.lanes.specs.Lanes.{freshLanes, laneAt, waitingWith, dataOf, ownLane, faultNumber}
-use Rattle.lanes.specs.Join.{joinRefusal, joinAnswer, joinLanes, laneFor, Joins}
-use Rattle.lanes.specs.Grant.{IsShortBuffer, IsNothingWaiting, grantRows, grantRefusal, nextPlace, movesOn, servedFrom, fromDesk, grantTold, Grants, GrantsBy}
-use Rattle.lanes.specs.Withdraw.{withdrawRefusal, withdrawAnswer, withdrawLanes, Withdraws}
+use Rattle.lanes.specs.Lanes.{freshLanes, laneAt, waitingWith, dataOf, faultNumber}
+use Rattle.lanes.specs.Join.{joinRefusal, joinAnswer, laneFor, Joins}
+use Rattle.lanes.specs.Grant.{IsShortBuffer, IsNothingWaiting, grantRows, grantRefusal, nextPlace, movesOn, fromDesk, grantTold, Grants, GrantsBy}
+use Rattle.lanes.specs.Withdraw.{withdrawRefusal, withdrawAnswer, Withdraws}
 use Rattle.lanes.specs.declared.AfterGrant.{AfterGrant}
 use Rattle.lanes.specs.declared.AfterJoin.{AfterJoin}
 use Rattle.lanes.specs.declared.AfterWithdraw.{AfterWithdraw}
@@ -41,8 +40,8 @@ use Rattle.lanes.specs.declared.Fault.the-variants.{AtDesk}
 use Rattle.lanes.specs.declared.Lanes.{Lanes}
 use Rattle.lanes.specs.declared.Waiting.{Waiting}
 use Rattle.turns.specs.Fair.{counts, turnUsed}
-use Rattle.turns.specs.Turns.{Hall, Call, joins, grants, withdraws, atDesk, after, granted, allAfter, oldest, openedWith, opening, reaches, grantReaches, allReach, Orderly}
-use Rattle.turns.specs.Queue.{Event, joined, opened, withdrew, nothing, eventOf, allAnswered, ofJoin, ofGrant, ofOpening, ofWithdrawal, less, waitingOf, Kept, Right, InTurn}
+use Rattle.turns.specs.Turns.{Hall, Call, joins, grants, withdraws, atDesk, after, granted, allAfter, oldest, openedWith, reaches, grantReaches, allReach, Orderly}
+use Rattle.turns.specs.Queue.{Event, joined, opened, withdrew, nothing, eventOf, allAnswered, ofJoin, ofGrant, ofOpening, ofWithdrawal, less, waitingOf, Right, InTurn}
 use Rattle.turns.specs.Queue.{sawJoining, sawGranting, sawWithdrawing, numberOf, joinedBy, openedFor, withdrawnBy}
 use Rattle.turns.proofs.Orderly.{fresh-orderly, keeps-order, fit-to-grant}
 use Rattle.turns.proofs.Queue.{one-goes, fresh-kept, less-by-one}
@@ -216,7 +215,8 @@ pub grant-exactly : (lanes : Lanes) (desk : Desk) (clock : ℕ) (room : List ℕ
 unfolding grantRows IsShortBuffer IsNothingWaiting
 grant-exactly lanes desk clock room r room′ o g =
     numbered faultNumber (grantedRows lanes desk clock (length room))
-    (orLater (grantRefusal lanes (length room)) (firstOf (test (leb 95 (distanceOf desk clock)) (AtDesk NoneFree) ∷ []))) (granted-ranked lanes desk clock (length room)) (73 ∷ 74 ∷ 15 ∷ []) refl refl (grantTold (r .answer))
+    (orLater (grantRefusal lanes (length room)) (firstOf (test (leb 95 (distanceOf desk clock)) (AtDesk NoneFree) ∷ [])))
+    (granted-ranked lanes desk clock (length room)) (73 ∷ 74 ∷ 15 ∷ []) refl refl (grantTold (r .answer))
     (go (grantRefusal lanes (length room)) refl g)
   where
     go : (x : Option Fault) → grantRefusal lanes (length room) ≡ x → GrantsBy x lanes desk clock room r room′
@@ -226,7 +226,8 @@ grant-exactly lanes desk clock room r room′ o g =
         let fit = fit-to-grant lanes (length room) e in
         let w : Waiting = oldest lanes in
         let refusal = only-none-free desk (oldest lanes .asked) (dataOf (oldest lanes)) clock (length room) (o .allowed (nextPlace lanes) 0 (fit .2) (fit .3)) (fit .0) in
-        let answer : g .0 .answer ≡ openAnswer (cond (leb 95 (distanceOf desk clock)) (some NoneFree) none) (161 + givenPlace desk clock) (length (requestAt (givenPlace desk clock) (oldest lanes .asked) (dataOf (oldest lanes)))) =
+        let n : ℕ = length (requestAt (givenPlace desk clock) (oldest lanes .asked) (dataOf (oldest lanes))) in
+        let answer : g .0 .answer ≡ openAnswer (cond (leb 95 (distanceOf desk clock)) (some NoneFree) none) (161 + givenPlace desk clock) n =
         g .1 .0 ∙ ap (λ (x : Option DeskFault). openAnswer x (161 + givenPlace desk clock) (length (requestAt (givenPlace desk clock) (oldest lanes .asked) (dataOf (oldest lanes))))) refusal in
         ap grantTold (g .2 .0 ∙ ap (fromDesk (oldest lanes .asked .job)) answer) ∙ told (leb 95 (distanceOf desk clock))
       where

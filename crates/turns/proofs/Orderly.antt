@@ -1,16 +1,16 @@
 -- Every call leaves the lanes in order.
 -- Assumes nothing.
 use mathlib.Core.Path.{_≡_, refl, sym, ap, subst, _∙_}
-use mathlib.Core.Bool.{Bool, true, false, cond, _||_, true≢false}
+use mathlib.Core.Bool.{Bool, true, false, _||_, true≢false}
 use mathlib.Core.List.{List, [], _∷_}
 use mathlib.Core.Logic.{_≢_}
 use mathlib.Core.Option.{Option, some, none}
-use Prim.Native.Nat.{ℕ, zero, suc, _+_, _-_, _%_, _≤_, _<_}
+use Prim.Native.Nat.{ℕ, _+_, _-_, _%_, _≤_, _<_}
 use native.Mathlib.Decide.{decLt}
 use native.Mathlib.Omega.{arith}
 use borrow.Author.Tests.{leb-false, ltb-false, eqb-true, eqb-false}
 use lib.Dec.{eqb, leb, ltb}
-use lib.ListN.{length, getD, set, take, replicate, length-set, length-replicate, getD-replicate}
+use lib.ListN.{length, replicate, length-set, length-replicate, getD-replicate}
 use lib.Seq.{take-append-seam}
 use Rattle.lent.proofs.Laws.{over-is}
 use Rattle.request.proofs.Laws.{allowed-writable}
@@ -75,7 +75,8 @@ put-in-order {lanes} o last place lane hl hp fit alone =
       | no n ↦ subst InOrder (sym (put-other lanes last place lane k n)) (lane-in-order o k h)
     ]
 
-    one : (j k : ℕ) → j < 16 → k < 16 → (Empty (laneAt (put lanes last place lane) j) → ⊥) → (Empty (laneAt (put lanes last place lane) k) → ⊥) → waitingAt (laneAt (put lanes last place lane) j) 0 .asked .job ≡ waitingAt (laneAt (put lanes last place lane) k) 0 .asked .job → j ≡ k
+    one : (j k : ℕ) → j < 16 → k < 16 → (Empty (laneAt (put lanes last place lane) j) → ⊥) → (Empty (laneAt (put lanes last place lane) k) → ⊥)
+        → waitingAt (laneAt (put lanes last place lane) j) 0 .asked .job ≡ waitingAt (laneAt (put lanes last place lane) k) 0 .asked .job → j ≡ k
     one j k hj hk nj nk same = elim (same-or-not j place) [
       | yes ej ↦ elim (same-or-not k place) [
         | yes ek ↦ ej ∙ sym ek
@@ -203,7 +204,9 @@ join-keeps lanes asked bytes o = go (joinRefusal lanes asked bytes) refl
         let lane : Lane = laneAt lanes place in
         let new = joined-in-order lane (lane-in-order o place (fit .1)) (fit .2) asked bytes (fit .0) (lane-of-job o (asked .job) (fit .1)) in
         put-in-order o (lanes .last) place (withLast lane (waitingWith asked bytes)) (o .last-within) (fit .1) new
-        (λ k h apart full holds same. no-other-lane o (asked .job) k h apart holds (same ∙ first-job lane asked bytes (fit .2) (lane-in-order o place (fit .1)) (lane-of-job o (asked .job) (fit .1))))
+        (λ k h apart full holds same.
+        no-other-lane o (asked .job) k h apart holds
+        (same ∙ first-job lane asked bytes (fit .2) (lane-in-order o place (fit .1)) (lane-of-job o (asked .job) (fit .1))))
 
 -- ---- one less
 

@@ -1,11 +1,12 @@
 -- What the definitions and records say that the other laws speak of, said out.
 -- Assumes nothing.
-use mathlib.Core.Path.{_≡_, refl}
-use mathlib.Core.Bool.{false}
+use mathlib.Core.Path.{_≡_, refl, sym, ap, _∙_}
+use mathlib.Core.Bool.{true, false}
 use mathlib.Core.List.{List, [], _∷_, _++_}
 use mathlib.Core.Logic.{_≢_, _⊎_}
-use mathlib.Core.Option.{none}
+use mathlib.Core.Option.{some, none}
 use Prim.Native.Nat.{ℕ, suc, _+_, _-_, _%_, _≤_, _<_}
+use native.Mathlib.Omega.{arith}
 use borrow.Author.Tests.{eq-eqb, ne-eqb}
 use lib.ListN.{length, take, replicate}
 use Rattle.lent.specs.Lent.{over}
@@ -15,15 +16,23 @@ use Rattle.desk.specs.Open.{Opens}
 use Rattle.desk.specs.declared.AfterOpen.{AfterOpen}
 use Rattle.desk.specs.declared.Desk.{Desk}
 use Rattle.desk.specs.declared.Opening.the-variants.{Opened}
-use Rattle.nights.specs.Night.{Call as DeskCall}
-use Rattle.lanes.specs.Lanes.{laneAt, waitingAt}
+use Rattle.nights.specs.Night.{Call as DeskCall, asks, after as deskAfter}
+use Rattle.lanes.specs.Lanes.{TheirLane, laneAt, waitingAt, queueIn, ownLane}
+use Rattle.lanes.specs.Grant.{grantRefusal, nextPlace, Grants}
 use Rattle.lanes.specs.declared.AfterGrant.{AfterGrant}
-use Rattle.lanes.specs.declared.Granting.the-variants.{Granted}
+use Rattle.lanes.specs.declared.Fault.{Fault}
+use Rattle.lanes.specs.declared.Granting.the-variants.{Granted, Refused as NotGranted}
+use Rattle.lanes.specs.declared.Joining.the-variants.{Joined, Refused as NotJoined}
 use Rattle.lanes.specs.declared.Lanes.{Lanes}
+use Rattle.lanes.specs.declared.Lane.{Lane}
 use Rattle.lanes.specs.declared.Waiting.{Waiting}
-use Rattle.turns.specs.Turns.{Hall, Call, joins, grants, withdraws, atDesk, allAfter, Orderly}
-use Rattle.turns.specs.Queue.{Event, joined, opened, withdrew, nothing, less, waitingOf, Kept, Oldest, Right, InTurn}
-use Rattle.turns.specs.Fair.{Fate, waits, fateBy, fate, counts, counted, OpenedBy, Ended}
+use Rattle.lanes.specs.declared.Withdrawing.the-variants.{Done, Refused as NotDone}
+use Rattle.turns.specs.Turns.{Hall, Call, joins, grants, withdraws, atDesk, after, allAfter, reaches, allReach, Orderly}
+use Rattle.turns.specs.Queue.{Event, joined, opened, withdrew, nothing, less, waitingOf, Kept, Right, InTurn}
+use Rattle.turns.specs.Queue.{eventOf, allAnswered, sawJoining, sawGranting, sawWithdrawing, numberOf, joinedBy, openedFor}
+use Rattle.turns.specs.Outcome.{JoinedAt, GrantedAt, WithdrawnAt}
+use Rattle.turns.specs.Fair.{Fate, waits, opened as isOpened, withdrawn, fateBy, fate, counts, counted, OpenedBy, Ended}
+use Rattle.turns.proofs.Laws.{grants-after}
 
 -- ---- what waits of a job's, by what the callers saw
 
@@ -108,3 +117,161 @@ pub ended-plainly : {hall : Hall} {calls : List Call} {lane place : ℕ} {end : 
     × (fate hall before lane (waits place) ≡ waits last)
     × (fateBy (allAfter hall before) call lane last ≡ end)
 ended-plainly e = (e .before, e .call, e .rest, e .last, e .all, e .waited, e .ends)
+
+-- ---- any calls, one after the other
+
+pub all-after-plainly : (hall : Hall) (c : Call) (cs : List Call) → (allAfter hall [] ≡ hall) × (allAfter hall (c ∷ cs) ≡ allAfter (after hall c) cs)
+unfolding allAfter
+all-after-plainly hall c cs = (refl, refl)
+
+pub all-answered-plainly : (hall : Hall) (past : List Event) (c : Call) (cs : List Call)
+    → (allAnswered hall past [] ≡ past) × (allAnswered hall past (c ∷ cs) ≡ allAnswered (after hall c) (eventOf hall c ∷ past) cs)
+unfolding allAnswered
+all-answered-plainly hall past c cs = (refl, refl)
+
+pub counted-plainly : (hall : Hall) (c : Call) (cs : List Call)
+    → (counted hall [] ≡ 0)
+    × (counts hall c ≡ true → counted hall (c ∷ cs) ≡ 1 + counted (after hall c) cs)
+    × (counts hall c ≡ false → counted hall (c ∷ cs) ≡ counted (after hall c) cs)
+unfolding counted
+counted-plainly hall c cs = (refl, λ e. rw e (omega arith), λ e. rw e (omega arith))
+
+pub fate-plainly : (hall : Hall) (c : Call) (cs : List Call) (lane place : ℕ) (f : Fate)
+    → (fate hall [] lane f ≡ f)
+    × (fate hall (c ∷ cs) lane (waits place) ≡ fate (after hall c) cs lane (fateBy hall c lane place))
+    × (fate hall (c ∷ cs) lane isOpened ≡ isOpened)
+    × (fate hall (c ∷ cs) lane withdrawn ≡ withdrawn)
+unfolding fate
+fate-plainly hall c cs lane place f = (refl, refl, refl, refl)
+
+-- a grant counts exactly where it is not refused
+pub grant-counts : (hall : Hall) (clock : ℕ) (room : List ℕ) (r : AfterGrant) (room′ : List ℕ) → Grants (hall .lanes) (hall .desk) clock room r room′
+    → ((job address n : ℕ) → r .answer ≡ Granted job address n → counts hall (grants clock room) ≡ true)
+    × ((f : Fault) → r .answer ≡ NotGranted f → counts hall (grants clock room) ≡ false)
+grant-counts hall clock room r room′ g =
+    let is = grants-after hall clock room r room′ g .2 in
+    (λ job address n e. is ∙ rw e, λ f e. is ∙ rw e)
+
+-- ---- calls at the desk itself: they are made, and reach it
+
+pub desk-after : (hall : Hall) (call : DeskCall)
+    → (after hall (atDesk call) ≡ record { lanes = hall .lanes; desk = deskAfter (hall .desk) call })
+    × (reaches hall (atDesk call) ≡ call ∷ [])
+    × (eventOf hall (atDesk call) ≡ nothing)
+unfolding after reaches eventOf
+desk-after hall call = (refl, refl, refl)
+
+pub reaches-plainly : (hall : Hall) (asked : Request) (bytes : List ℕ) (job at clock : ℕ) (room : List ℕ)
+    → (reaches hall (joins asked bytes) ≡ [])
+    × (reaches hall (withdraws job at) ≡ [])
+    × ((f : Fault) → grantRefusal (hall .lanes) (length room) ≡ some f → reaches hall (grants clock room) ≡ [])
+    × (grantRefusal (hall .lanes) (length room) ≡ none
+    → reaches hall (grants clock room)
+    ≡ asks (waitingAt (laneAt (hall .lanes) (nextPlace (hall .lanes))) 0 .asked)
+    (take (waitingAt (laneAt (hall .lanes) (nextPlace (hall .lanes))) 0 .size % 241) (waitingAt (laneAt (hall .lanes) (nextPlace (hall .lanes))) 0 .bytes)) clock room ∷ [])
+unfolding reaches
+reaches-plainly hall asked bytes job at clock room = (refl, refl, λ f e. rw e, λ e. rw e)
+
+pub all-reach-plainly : (hall : Hall) (c : Call) (cs : List Call) → (allReach hall [] ≡ []) × (allReach hall (c ∷ cs) ≡ reaches hall c ++ allReach (after hall c) cs)
+unfolding allReach
+all-reach-plainly hall c cs = (refl, refl)
+
+-- ---- what the callers saw
+
+pub queue-plainly : (lane : Lane) → queueIn lane ≡ take (lane .size) (lane .waiting)
+queue-plainly lane = refl
+
+pub kept-plainly : (lanes : Lanes) (past : List Event) → Kept lanes past
+    → (job : ℕ) → take (laneAt lanes (ownLane lanes job) .size) (laneAt lanes (ownLane lanes job) .waiting) ≡ waitingOf past job
+unfolding Kept
+kept-plainly lanes past kept = kept
+
+pub saw-plainly : (asked : Request) (bytes : List ℕ) (lane at job address n clock : ℕ) (w : Waiting) (f : Fault)
+    → (sawJoining (Joined lane at) asked bytes ≡ joined asked bytes)
+    × (sawJoining (NotJoined f) asked bytes ≡ nothing)
+    × (sawGranting (Granted job address n) w clock ≡ opened (w .asked) (take (w .size % 241) (w .bytes)) address clock)
+    × (sawGranting (NotGranted f) w clock ≡ nothing)
+    × (sawWithdrawing Done job at ≡ withdrew job at)
+    × (sawWithdrawing (NotDone f) job at ≡ nothing)
+saw-plainly asked bytes lane at job address n clock w f = (refl, refl, refl, refl, refl, refl)
+
+-- how many requests of a job joined, were opened and were withdrawn
+pub numbers-plainly : (past : List Event) (asked : Request) (bytes : List ℕ) (at address clock : ℕ)
+    → (numberOf (joinedBy (asked .job)) [] ≡ 0)
+    × (numberOf (openedFor (asked .job)) [] ≡ 0)
+    × (numberOf (openedFor (asked .job)) (opened asked bytes address clock ∷ past) ≡ suc (numberOf (openedFor (asked .job)) past))
+    × ((job : ℕ) → asked .job ≢ job → numberOf (openedFor job) (opened asked bytes address clock ∷ past) ≡ numberOf (openedFor job) past)
+    × ((job : ℕ) → (numberOf (openedFor job) (joined asked bytes ∷ past) ≡ numberOf (openedFor job) past)
+    × (numberOf (openedFor job) (withdrew (asked .job) at ∷ past) ≡ numberOf (openedFor job) past)
+    × (numberOf (openedFor job) (nothing ∷ past) ≡ numberOf (openedFor job) past))
+    × (numberOf (joinedBy (asked .job)) (joined asked bytes ∷ past) ≡ suc (numberOf (joinedBy (asked .job)) past))
+    × ((job : ℕ) → asked .job ≢ job → numberOf (joinedBy job) (joined asked bytes ∷ past) ≡ numberOf (joinedBy job) past)
+    × ((job : ℕ) → (numberOf (joinedBy job) (opened asked bytes address clock ∷ past) ≡ numberOf (joinedBy job) past)
+    × (numberOf (joinedBy job) (withdrew (asked .job) at ∷ past) ≡ numberOf (joinedBy job) past)
+    × (numberOf (joinedBy job) (nothing ∷ past) ≡ numberOf (joinedBy job) past))
+unfolding numberOf
+numbers-plainly past asked bytes at address clock = (
+  refl,
+  refl,
+  rw (eq-eqb (asked .job) (asked .job) refl),
+  λ job n. rw (ne-eqb (asked .job) job n),
+  λ job. (refl, refl, refl),
+  rw (eq-eqb (asked .job) (asked .job) refl),
+  λ job n. rw (ne-eqb (asked .job) job n),
+  λ job. (refl, refl, refl),
+)
+
+-- ---- what a call on the lanes did
+
+pub joined-at-plainly : {lanes : Lanes} {asked : Request} {bytes : List ℕ} {lane at : ℕ} {lanes′ : Lanes} → JoinedAt lanes asked bytes lane at lanes′
+    → (place : ℕ)
+    × (place < 16)
+    × (lane ≡ place + 1)
+    × (at ≡ length (queueIn (laneAt lanes place)) + 1)
+    × (TheirLane lanes (asked .job) place
+    ⊎ (((m : ℕ) → m < 16 → (laneAt lanes m .size ≡ 0 → ⊥) × (waitingAt (laneAt lanes m) 0 .asked .job ≡ asked .job) → ⊥)
+    × (laneAt lanes place .size ≡ 0)
+    × ((m : ℕ) → m < place → laneAt lanes m .size ≡ 0 → ⊥)))
+    × (queueIn (laneAt lanes′ place) ≡ queueIn (laneAt lanes place) ++ (record { asked = asked; size = length bytes; bytes = over bytes (replicate 240 0) } ∷ []))
+    × ((m : ℕ) → m ≢ place → laneAt lanes′ m ≡ laneAt lanes m)
+    × (lanes′ .last ≡ lanes .last)
+joined-at-plainly j = (j .place, j .within, j .lane-is, j .at-is, j .which, j .longer-by-it, j .others, j .turn-kept)
+
+pub granted-at-plainly : {lanes : Lanes} {desk : Desk} {clock : ℕ} {room : List ℕ} {job address n : ℕ} {r : AfterGrant} {room′ : List ℕ}
+    → GrantedAt lanes desk clock room job address n r room′
+    → (place : ℕ)
+    × (distance : ℕ)
+    × (place ≡ (lanes .last + 1 + distance) % 16)
+    × (distance < 16)
+    × ((j : ℕ) → j < distance → laneAt lanes ((lanes .last + 1 + j) % 16) .size ≡ 0)
+    × (laneAt lanes place .size ≡ 0 → ⊥)
+    × ((w : Waiting)
+    × (queueIn (laneAt lanes place) ≡ w ∷ queueIn (laneAt (r .lanes) place))
+    × (job ≡ w .asked .job)
+    × ((o : AfterOpen)
+    × Opens desk (w .asked) (take (w .size % 241) (w .bytes)) clock room o room′
+    × (o .answer ≡ Opened address n)
+    × (r .desk ≡ o .desk)))
+    × ((m : ℕ) → m ≢ place → laneAt (r .lanes) m ≡ laneAt lanes m)
+    × (r .lanes .last ≡ place)
+granted-at-plainly {lanes} g = (
+  (lanes .last + 1 + g .distance) % 16,
+  g .distance,
+  refl,
+  g .near,
+  g .passed,
+  g .waited,
+  (g .request, g .was ∙ ap (λ (ws : List Waiting). g .request ∷ ws) (sym (g .left)), g .job-is, (g .at-desk, g .opens, g .answered, g .desk-next)),
+  g .others,
+  g .turn,
+)
+
+pub withdrawn-at-plainly : {lanes : Lanes} {job at : ℕ} {lanes′ : Lanes} → WithdrawnAt lanes job at lanes′
+    → (place : ℕ)
+    × TheirLane lanes job place
+    × (1 ≤ at)
+    × (at ≤ length (queueIn (laneAt lanes place)))
+    × (queueIn (laneAt lanes′ place) ≡ less (at - 1) (queueIn (laneAt lanes place)))
+    × ((m : ℕ) → m ≢ place → laneAt lanes′ m ≡ laneAt lanes m)
+    × (lanes′ .last ≡ lanes .last)
+withdrawn-at-plainly w = (w .place, w .theirs, w .from-1, w .within, w .left, w .others, w .turn-kept)

@@ -1,25 +1,24 @@
 -- What waits in the lanes is what the callers saw join, less what was opened and withdrawn.
 -- Assumes nothing.
 use mathlib.Core.Path.{_≡_, refl, sym, ap, subst, _∙_}
-use mathlib.Core.Bool.{Bool, true, false, cond}
+use mathlib.Core.Bool.{cond}
 use mathlib.Core.List.{List, [], _∷_, _++_}
 use mathlib.Core.Logic.{_≢_}
 use mathlib.Core.Option.{Option, some, none}
 use Prim.Native.Nat.{ℕ, zero, suc, _+_, _-_, _≤_, _<_}
-use native.Mathlib.Decide.{decLt}
 use native.Mathlib.Numerals.{add-one}
 use native.Mathlib.Omega.{arith}
 use borrow.Author.Tests.{eq-eqb, ne-eqb}
 use lib.Dec.{eqb}
-use lib.ListN.{length, getD, set, take, length-set}
+use lib.ListN.{length, getD, take, length-set}
 use lib.Seq.{take-suc-set, length-take-le}
 use Rattle.first.proofs.Laws.{first-same, first-none}
-use Rattle.rows.proofs.Laws.{told-true, told-false}
+use Rattle.rows.proofs.Laws.{told-false}
 use Rattle.desk.specs.declared.Opening.{Opening}
 use Rattle.desk.specs.declared.Opening.the-variants.{Opened, Refused as NotOpened}
 use Rattle.request.specs.declared.Request.{Request}
 use Rattle.lanes.proofs.Ranking.{decides-theirs, own-is, is-own}
-use Rattle.lanes.specs.Lanes.{noRequest, freshLanes, Empty, Belongs, isTheirs, laneAt, waitingAt, waitingWith, dataOf, queueIn, withLast, without, nextAt, ownLane}
+use Rattle.lanes.specs.Lanes.{noRequest, freshLanes, Empty, Belongs, isTheirs, laneAt, waitingAt, waitingWith, dataOf, queueIn, withLast, without, ownLane}
 use Rattle.lanes.specs.Join.{joinRefusal, joinLanes, laneFor}
 use Rattle.lanes.specs.Grant.{grantRefusal, nextPlace, movesOn, servedFrom}
 use Rattle.lanes.specs.Withdraw.{withdrawRefusal, withdrawLanes}
@@ -27,8 +26,8 @@ use Rattle.lanes.specs.declared.Fault.{Fault}
 use Rattle.lanes.specs.declared.Lane.{Lane}
 use Rattle.lanes.specs.declared.Lanes.{Lanes}
 use Rattle.lanes.specs.declared.Waiting.{Waiting}
-use Rattle.turns.specs.Turns.{Hall, Call, joins, grants, withdraws, atDesk, after, granted, allAfter, oldest, openedWith, Orderly}
-use Rattle.turns.specs.Queue.{Event, joined, opened, withdrew, nothing, ofJoin, ofOpening, ofGrant, ofWithdrawal, eventOf, allAnswered, less, waitingOf, Kept, Oldest, Right}
+use Rattle.turns.specs.Turns.{Hall, Call, joins, grants, withdraws, atDesk, after, granted, oldest, openedWith, Orderly}
+use Rattle.turns.specs.Queue.{Event, joined, opened, withdrew, nothing, ofJoin, ofOpening, ofGrant, ofWithdrawal, eventOf, less, waitingOf, Kept, Right}
 use Rattle.turns.proofs.Arrays.{same-or-not, put, put-there, put-other}
 use Rattle.turns.proofs.Orderly.{lane-in-order, fit-to-join, fit-to-grant, fit-to-withdraw, lane-of-job, no-other-lane, first-job, same-job, fresh-lane}
 

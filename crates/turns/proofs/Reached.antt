@@ -11,7 +11,6 @@ use Rattle.remainder.specs.Remainder.{timesX, timesXs, withByte, withBytes, rem
 use Rattle.telegram.specs.Write.{sealed}
 use Rattle.ticket.specs.Due.{age}
 use Rattle.request.specs.Request.{askRefusal}
-use Rattle.request.specs.declared.Request.{Request}
 use Rattle.desk.specs.Desk.{freshDesk}
 use Rattle.desk.specs.Open.{distanceOf, givenPlace, openRefusal}
 use Rattle.lanes.specs.Grant.{nextDistance, nextPlace, grantRefusal}

@@ -1,7 +1,6 @@
 -- Any calls on the lanes and at the desk behind them, in any order. 02, #109.
 -- Assumes nothing.
 use mathlib.Core.Path.{_≡_}
-use mathlib.Core.Bool.{cond}
 use mathlib.Core.List.{List, [], _∷_, _++_}
 use mathlib.Core.Option.{Option, some, none}
 use Prim.Native.Nat.{ℕ, _+_, _-_, _≤_, _<_}
@@ -11,7 +10,7 @@ use Rattle.request.specs.declared.Request.{Request}
 use Rattle.desk.specs.Open.{givenPlace, requestAt, openRefusal, openAnswer}
 use Rattle.desk.specs.declared.Desk.{Desk}
 use Rattle.desk.specs.declared.Opening.{Opening}
-use Rattle.nights.specs.Night.{asks, afterAll}
+use Rattle.nights.specs.Night.{asks}
 use Rattle.nights.specs.Night.{Call as DeskCall, after as deskAfter}
 use Rattle.lanes.specs.Lanes.{Empty, laneAt, waitingAt, waitingWith, dataOf, ownLane}
 use Rattle.lanes.specs.Join.{joinRefusal, joinLanes, laneFor}

@@ -1,4 +1,4 @@
-use mathlib.Core.Path.{refl, sym, _∙_}
+use mathlib.Core.Path.{sym, _∙_}
 use Rattle.lanes.proofs.Calls.{join-denied, join-allowed}
 use Rattle.request.proofs.Laws.{asked-denied, asked-allowed, allowed-writable}
 use borrow.Author.Needs.{needs}

@@ -1,4 +1,3 @@
-use mathlib.Core.Path.{_∙_}
 use Rattle.lanes.proofs.Calls.{joined-at}
 use borrow.Author.Tests.{le-leb, lt-leb}
 use borrow.Author.Needs.{needs}

@@ -56,7 +56,9 @@ loop-less : tie.Need-loop-less Inv-loop μ-loop
 loop-less c = search needs
 
 loop-again : tie.Need-loop-again Inv-loop μ-loop
-loop-again c = (omega arith, below-more _ _ (c .before .before .before .before .loop .inv .1) (sym (c .before .is-waited-in .ensures) ∙ c .if1 .left), c .before .before .before .before .loop .inv .2)
+loop-again c =
+    let inv = c .before .before .before .before .loop .inv in
+    (omega arith, below-more _ _ (inv .1) (sym (c .before .is-waited-in .ensures) ∙ c .if1 .left), inv .2)
 
 returns-2 : tie.Need-returns-2 Inv-loop μ-loop
 unfolding nextDistance

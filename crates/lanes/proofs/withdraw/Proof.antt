@@ -1,4 +1,3 @@
-use mathlib.Core.Path.{refl, subst}
 use Rattle.lanes.proofs.Calls.{no-lane, no-first, no-more, withdrawn-at}
 use borrow.Author.Needs.{needs}
 use Rattle.lanes.proofs.withdraw.Statement.{statement}
