@@ -1,4 +1,4 @@
--- What waits, by what the callers saw alone: "in order of arrival", "each is opened at most once, as it was asked, data included". 02, #109.
+-- What waits, by what the callers saw: "in order of arrival", "each is opened at most once, as it was asked, data included". 02, #109.
 -- Assumes nothing.
 use mathlib.Core.Path.{_≡_}
 use mathlib.Core.Bool.{Bool, false, cond}
@@ -26,8 +26,8 @@ use Rattle.lanes.specs.declared.Withdrawing.{Withdrawing}
 use Rattle.lanes.specs.declared.Withdrawing.the-variants.{Done, Refused as NotDone}
 use Rattle.turns.specs.Turns.{Hall, Call, joins, grants, withdraws, atDesk, after, oldest, openedWith, Orderly}
 
--- what the callers saw: a request that joined, with its data; one that a grant opened, with its data, under an address; or that a job withdrew
--- the one at a place, from 1
+-- what the callers saw: a request that joined, with its data; that a grant opened one of a job's under an address; or that a job withdrew the
+-- one at a place, from 1. With what was opened stands the whole request; its caller is told the job, and `Right` says which it was.
 pub data Event : Type 0 where
   joined : (asked : Request) (bytes : List ℕ) → Event
   opened : (asked : Request) (bytes : List ℕ) (address clock : ℕ) → Event
