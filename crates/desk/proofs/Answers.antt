@@ -28,19 +28,20 @@ pub open-refused : (o : Option Fault) (a n : ℕ) (f : Fault) → NotOpened f �
 open-refused none a n f e = cc
 open-refused (some g) a n f e = cc
 
-pub booked-told : (o : Option Fault) (ticket : Ticket) (t : Fields) (job address sort n : ℕ) → Booked job address sort n ≡ bookAnswer o ticket t
-    → (o ≡ none) × (job ≡ ticket .asked .job) × (address ≡ t .destination) × (sort ≡ t .sort) × (n ≡ t .size)
-booked-told none ticket t job address sort n e = (refl, cc, cc, cc, cc)
-booked-told (some f) ticket t job address sort n e = never (cc)
+pub booked-told : (o : Option Fault) (ticket : Ticket) (t : Fields) (job address sort n folder : ℕ)
+    → Booked job address sort n folder ≡ bookAnswer o ticket t
+    → (o ≡ none) × (job ≡ ticket .asked .job) × (address ≡ t .destination) × (sort ≡ t .sort) × (n ≡ t .size) × (folder ≡ ticket .asked .folder)
+booked-told none ticket t job address sort n folder e = (refl, cc, cc, cc, cc, cc)
+booked-told (some f) ticket t job address sort n folder e = never (cc)
 
 pub book-refused : (o : Option Fault) (ticket : Ticket) (t : Fields) (f : Fault) → NotBooked f ≡ bookAnswer o ticket t → o ≡ some f
 book-refused none ticket t f e = cc
 book-refused (some g) ticket t f e = cc
 
-pub closed-told : (o : Option Fault) (ticket : Ticket) (a job address : ℕ) → Closed job address ≡ closeAnswer o ticket a
-    → (o ≡ none) × (job ≡ ticket .asked .job) × (address ≡ a)
-closed-told none ticket a job address e = (refl, cc, cc)
-closed-told (some f) ticket a job address e = never (cc)
+pub closed-told : (o : Option Fault) (ticket : Ticket) (a job address folder : ℕ) → Closed job address folder ≡ closeAnswer o ticket a
+    → (o ≡ none) × (job ≡ ticket .asked .job) × (address ≡ a) × (folder ≡ ticket .asked .folder)
+closed-told none ticket a job address folder e = (refl, cc, cc, cc)
+closed-told (some f) ticket a job address folder e = never (cc)
 
 pub close-refused : (o : Option Fault) (ticket : Ticket) (a : ℕ) (f : Fault) → NotClosed f ≡ closeAnswer o ticket a → o ≡ some f
 close-refused none ticket a f e = cc

@@ -7,7 +7,7 @@ use mathlib.Core.Logic.{_≢_}
 use mathlib.Core.Option.{Option, some, none}
 use Prim.Native.Nat.{ℕ, _+_, _-_, _≤_, _<_}
 use native.Mathlib.Omega.{arith}
-use borrow.Author.Tests.{leb-true, le-ltb, le-leb, lt-leb, ne-eqb}
+use borrow.Author.Tests.{leb-true, le-ltb, le-leb, lt-leb, eq-eqb, ne-eqb}
 use lib.Dec.{eqb, ltb, leb}
 use lib.ListN.{length}
 use Rattle.request.specs.Request.{askRefusal}
@@ -33,12 +33,13 @@ use Rattle.desk.specs.Close.{isTheirs, cancelRefusal, duePlace, expireRe
 use Rattle.desk.specs.Open.{placeFrom, distanceOf, givenPlace, requestAt, openRefusal, withTicket, OpensAt, PlacesAt, Opens}
 use Rattle.desk.specs.Reply.{bookRefusal, replyRefusal}
 use Rattle.desk.specs.Desk.{ticketAt, ticketOn}
+use Rattle.desk.specs.Folder.{holderPlace, isFolderHeld}
 use Rattle.ticket.specs.Rest.{isFree}
 use Rattle.ticket.specs.Ticket.{noTicket, newTicket}
 use Rattle.request.specs.declared.Request.{Request}
 use Rattle.ticket.specs.declared.Ticket.{Ticket}
 use Rattle.desk.specs.declared.Desk.{Desk}
-use Rattle.desk.specs.declared.Fault.the-variants.{Denied, NoRoom, Unread, Misfit, NotTheirs, NothingDue}
+use Rattle.desk.specs.declared.Fault.the-variants.{Denied, FolderHeld, NoRoom, Unread, Misfit, NotTheirs, NothingDue}
 use Rattle.desk.specs.declared.Opening.the-variants.{Opened}
 use Rattle.desk.specs.declared.AfterOpen.{AfterOpen}
 use Rattle.desk.specs.declared.Opening.the-variants.{Refused}
@@ -70,11 +71,25 @@ pub open-denied : (desk : Desk) (asked : Request) (bytes : List ℕ) (clock room
 unfolding openRefusal
 open-denied desk asked bytes clock room f e = rw e
 
+pub open-held : (desk : Desk) (asked : Request) (bytes : List ℕ) (clock room : ℕ) → askRefusal asked bytes ≡ none → isFolderHeld desk asked ≡ true
+    → openRefusal desk asked bytes clock room ≡ some FolderHeld
+unfolding openRefusal
+open-held desk asked bytes clock room e held = rw (e, held)
+
 pub open-allowed : (desk : Desk) (asked : Request) (bytes : List ℕ) (clock : ℕ) (room : List ℕ) (r : AfterOpen) (room′ : List ℕ) (d : ℕ)
-    → askRefusal asked bytes ≡ none → d ≡ distanceOf desk clock
+    → askRefusal asked bytes ≡ none → isFolderHeld desk asked ≡ false → d ≡ distanceOf desk clock
     → PlacesAt desk d asked bytes clock room r room′ → Opens desk asked bytes clock room r room′
 unfolding openRefusal givenPlace
-open-allowed desk asked bytes clock room r room′ d e far p = rw e (rw far at p)
+open-allowed desk asked bytes clock room r room′ d e free far p = rw (e, free) (rw far at p)
+
+-- whether the folder is held, by what was asked and where the search for its holder has ended
+pub folder-none : (desk : Desk) (asked : Request) → asked .folder ≡ 0 → not (eqb (asked .folder) 0) ≡ isFolderHeld desk asked
+unfolding isFolderHeld
+folder-none desk asked e = rw (eq-eqb (asked .folder) 0 e)
+
+pub folder-by : (desk : Desk) (asked : Request) (k : ℕ) → asked .folder ≢ 0 → k ≡ holderPlace desk (asked .job) (asked .folder) → ltb k 95 ≡ isFolderHeld desk asked
+unfolding isFolderHeld
+folder-by desk asked k n e = rw (ne-eqb (asked .folder) 0 n, e)
 
 -- the writer can only lack room
 pub only-room : (d s t r : ℕ) (bytes : List ℕ) (room : ℕ) → length bytes ≤ 240 → d ≢ 0 → s ≢ 0 → t ≤ 9

@@ -24,11 +24,12 @@ use Rattle.desk.proofs.Answers.{open-refused}
 use Rattle.desk.proofs.Laws.{on-host, opened-fit, fit-to-open}
 use Rattle.desk.proofs.Ranking.{search-ended, search-passed}
 use Rattle.desk.specs.Desk.{ticketAt, ticketOn}
+use Rattle.desk.specs.Folder.{isFolderHeld}
 use Rattle.desk.specs.Open.{placeFrom, distanceOf, givenPlace, requestAt, openRefusal, openAnswer, openTold, openCount, Opens}
 use Rattle.desk.specs.Outcome.{stepsUp, Considered}
 use Rattle.desk.specs.declared.Desk.{Desk}
 use Rattle.desk.specs.declared.Fault.{Fault}
-use Rattle.desk.specs.declared.Fault.the-variants.{Denied, NoneFree, NoRoom}
+use Rattle.desk.specs.declared.Fault.the-variants.{Denied, FolderHeld, NoneFree, NoRoom}
 use Rattle.desk.specs.declared.AfterOpen.{AfterOpen}
 use Rattle.desk.specs.declared.Opening.the-variants.{Opened, Refused}
 
@@ -61,38 +62,45 @@ found desk clock turn near =
       passed = λ k h. rw (steps-up k (desk .turn) turn, on-host desk (placeFrom (desk .turn) k)) (search-passed desk clock k h);
     }
 
--- ---- what refuses an opening, by whether what is asked may be sent, whether no address is free and whether the room is short
+-- ---- what refuses an opening, by whether what is asked may be sent, whether its folder is held, whether no address is free and whether the
+-- room is short
 
-abbrev refusalOf : Option Asked → Bool → Bool → Option Fault
-refusalOf o far short = orLater (raised Denied o) (firstOf (test far NoneFree ∷ test short NoRoom ∷ []))
+abbrev pub refusalOf : Option Asked → Bool → Bool → Bool → Option Fault
+refusalOf o held far short = orLater (raised Denied o) (firstOf (test held FolderHeld ∷ test far NoneFree ∷ test short NoRoom ∷ []))
 
-lacks-room : (o : Option Asked) (far short : Bool) → refusalOf o far short ≡ some NoRoom → (far ≡ false) × (short ≡ true)
-lacks-room (some f) far short e = never (cc)
-lacks-room none true short e = never (cc)
-lacks-room none false true e = (refl, refl)
-lacks-room none false false e = never (cc)
+lacks-room : (o : Option Asked) (held far short : Bool) → refusalOf o held far short ≡ some NoRoom → (far ≡ false) × (short ≡ true)
+lacks-room (some f) held far short e = never (cc)
+lacks-room none true far short e = never (cc)
+lacks-room none false true short e = never (cc)
+lacks-room none false false true e = (refl, refl)
+lacks-room none false false false e = never (cc)
 
-no-more-than-14 : (f : Asked) → askNumber f ≤ 14
+pub no-more-than-14 : (f : Asked) → askNumber f ≤ 14
 no-more-than-14 asked.NoJob = omega arith
 no-more-than-14 asked.NotAModule = omega arith
 no-more-than-14 asked.NotARequest = omega arith
 no-more-than-14 asked.WrongData = omega arith
 no-more-than-14 asked.WrongWait = omega arith
 
-counts : (o : Option Asked) (far short : Bool) (address length distance n : ℕ) → openTold (openAnswer (refusalOf o far short) address length) ≡ some n
-    → (n ≤ 14 → openCount (refusalOf o far short) distance ≡ 0)
-    × (n ≡ 15 → openCount (refusalOf o far short) distance ≡ 95)
-    × (n ≡ 16 → openCount (refusalOf o far short) distance ≡ distance + 1)
-counts (some f) far short address length distance n e =
+counts : (o : Option Asked) (held far short : Bool) (address length distance n : ℕ)
+    → openTold (openAnswer (refusalOf o held far short) address length) ≡ some n
+    → (n ≤ 14 → openCount (refusalOf o held far short) distance ≡ 0)
+    × (n ≡ 15 → openCount (refusalOf o held far short) distance ≡ 95)
+    × (n ≡ 16 → openCount (refusalOf o held far short) distance ≡ distance + 1)
+    × (n ≡ 75 → openCount (refusalOf o held far short) distance ≡ 0)
+counts (some f) held far short address length distance n e =
     let is : askNumber f ≡ n = cc in
-    (λ h. refl, λ h. absurd (omega (arith, is, no-more-than-14 f)), λ h. absurd (omega (arith, is, no-more-than-14 f)))
-counts none true short address length distance n e =
+    (λ h. refl, λ h. absurd (omega (arith, is, no-more-than-14 f)), λ h. absurd (omega (arith, is, no-more-than-14 f)), λ h. refl)
+counts none true far short address length distance n e =
+    let is : 75 ≡ n = cc in
+    (λ h. absurd (omega arith), λ h. absurd (omega arith), λ h. absurd (omega arith), λ h. refl)
+counts none false true short address length distance n e =
     let is : 15 ≡ n = cc in
-    (λ h. absurd (omega arith), λ h. refl, λ h. absurd (omega arith))
-counts none false true address length distance n e =
+    (λ h. absurd (omega arith), λ h. refl, λ h. absurd (omega arith), λ h. absurd (omega arith))
+counts none false false true address length distance n e =
     let is : 16 ≡ n = cc in
-    (λ h. absurd (omega arith), λ h. absurd (omega arith), λ h. refl)
-counts none false false address length distance n e = never (cc)
+    (λ h. absurd (omega arith), λ h. absurd (omega arith), λ h. refl, λ h. absurd (omega arith))
+counts none false false false address length distance n e = never (cc)
 
 -- ---- of what opening answers, by its contract
 
@@ -107,15 +115,15 @@ module _ (desk : Desk) (asked : Request) (bytes : List ℕ) (clock : ℕ) (room 
       let fit = opened-fit desk asked bytes clock room r room′ opens address n e in
       rw (fit .1, opened-count address n e) (found desk clock turn (fit-to-open desk asked bytes clock (length room) (fit .0) .1))
 
-  -- "95 with 15, 0 with 10 to 14": by the number that is told
+  -- "95 with 15, 0 with 10 to 14", and 0 with 75: by the number that is told
   pub refused-count : (n : ℕ) → openTold (r .answer) ≡ some n
-      → (n ≤ 14 → r .count ≡ 0) × (n ≡ 15 → r .count ≡ 95) × (n ≡ 16 → r .count ≡ distanceOf desk clock + 1)
+      → (n ≤ 14 → r .count ≡ 0) × (n ≡ 15 → r .count ≡ 95) × (n ≡ 16 → r .count ≡ distanceOf desk clock + 1) × (n ≡ 75 → r .count ≡ 0)
   unfolding openRefusal
   refused-count n e =
       let told =
-      counts (askRefusal asked bytes) (leb 95 (distanceOf desk clock)) (ltb (length room) (length (requestAt (givenPlace desk clock) asked bytes)))
+      counts (askRefusal asked bytes) (isFolderHeld desk asked) (leb 95 (distanceOf desk clock)) (ltb (length room) (length (requestAt (givenPlace desk clock) asked bytes)))
       (161 + givenPlace desk clock) (length (requestAt (givenPlace desk clock) asked bytes)) (distanceOf desk clock) n (rw (opens .0) at e) in
-      (λ h. opens .3 ∙ told .0 h, λ h. opens .3 ∙ told .1 h, λ h. opens .3 ∙ told .2 h)
+      (λ h. opens .3 ∙ told .0 h, λ h. opens .3 ∙ told .1 h, λ h. opens .3 ∙ told .2 h, λ h. opens .3 ∙ told .3 h)
 
   -- "and with 16 the count up to the address that would have been given": the one whose telegram does not fit
   pub no-room-considered : desk .turn < 95 → r .answer ≡ Refused NoRoom
@@ -126,7 +134,7 @@ module _ (desk : Desk) (asked : Request) (bytes : List ℕ) (clock : ℕ) (room 
   no-room-considered turn e =
       let refused = open-refused (openRefusal desk asked bytes clock (length room)) _ _ NoRoom (sym e ∙ opens .0) in
       let lacks =
-      lacks-room (askRefusal asked bytes) (leb 95 (distanceOf desk clock)) (ltb (length room) (length (requestAt (givenPlace desk clock) asked bytes))) refused in
+      lacks-room (askRefusal asked bytes) (isFolderHeld desk asked) (leb 95 (distanceOf desk clock)) (ltb (length room) (length (requestAt (givenPlace desk clock) asked bytes))) refused in
       let count : r .count ≡ distanceOf desk clock + 1 = opens .3 ∙ rw refused in
       (161 + givenPlace desk clock, rw count (found desk clock turn (leb-false _ _ (lacks .0))), ltb-true _ _ (lacks .1))
 

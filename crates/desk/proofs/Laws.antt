@@ -10,7 +10,7 @@ use Prim.Native.Nat.{ℕ, zero, suc, _+_, _-_, _%_, _≤_, _<_}
 use native.Mathlib.Omega.{arith}
 use borrow.Author.Tests.{ltb-false, leb-true, leb-false, not-false, le-ltb, le-leb, lt-leb}
 use lib.Dec.{ltb, leb}
-use lib.ListN.{length, getD, take, set}
+use lib.ListN.{length, getD, take, set, replicate}
 use lib.Seq.{getD-set-same, getD-set-other}
 use Rattle.rows.proofs.Settled.{settled, settled-parts}
 use Rattle.rows.specs.Settled.{Settled}
@@ -22,8 +22,8 @@ use Rattle.remainder.specs.Remainder.{remainderOf, combined, AlteredNearby}
 use Rattle.request.proofs.Laws.{allowed-writable}
 use Rattle.request.specs.Request.{askRefusal}
 use Rattle.request.specs.declared.Request.{Request}
-use Rattle.rows.proofs.Laws.{decides-eq, decides-and, decides-set, first-false, or-none, raised-none}
-use Rattle.rows.specs.Rows.{firstOf, raised}
+use Rattle.rows.proofs.Laws.{decides-eq, decides-and, decides-set, first-false, told-false, or-none, raised-none}
+use Rattle.rows.specs.Rows.{firstOf, raised, test}
 use Rattle.telegram.proofs.Laws.{reads-back, altered-refused}
 use Rattle.telegram.proofs.Send.{telegram-long, length-messageFor}
 use Rattle.telegram.specs.Read.{readRefusal, fieldsIn, dataIn, readFrame, Reads}
@@ -41,15 +41,16 @@ use Rattle.ticket.specs.Ticket.{Open, noTicket, newTicket, withdrawnAt}
 use Rattle.ticket.specs.declared.Ticket.{Ticket}
 use Rattle.desk.proofs.Answers.{opened-told, open-refused, book-refused, closed-told, close-refused, booked-told}
 use Rattle.desk.proofs.Calls.{live-host, only-room}
-use Rattle.desk.proofs.Ranking.{search-ended, search-passed, due-ended}
+use Rattle.desk.proofs.Ranking.{search-ended, search-passed, due-ended, decides-folder-held}
 use Rattle.desk.specs.Close.{isTheirs, cancelRefusal, Cancels, Expires, duePlace, expireRefusal, withdrawnOn}
 use Rattle.desk.specs.Desk.{freshDesk, ticketAt, ticketOn, OpenOn, putAt, faultNumber, Fresh, Looks, Numbers}
+use Rattle.desk.specs.Folder.{IsFolderHeld, isFolderHeld}
 use Rattle.desk.specs.Open.{placeFrom, distanceOf, givenPlace, requestAt, placeTests, openRefusal, withTicket, Opens}
 use Rattle.desk.specs.Outcome.{Given, ClosedAlone, Books, Expired}
 use Rattle.desk.specs.Reply.{bookRefusal, replyRefusal, bookTold, answeredOn, Replies}
 use Rattle.desk.specs.declared.Desk.{Desk}
 use Rattle.desk.specs.declared.Fault.{Fault}
-use Rattle.desk.specs.declared.Fault.the-variants.{Denied, NoneFree, NoRoom, Unread, Misfit, NotTheirs, NothingDue}
+use Rattle.desk.specs.declared.Fault.the-variants.{Denied, FolderHeld, NoneFree, NoRoom, Unread, Misfit, NotTheirs, NothingDue}
 use Rattle.desk.specs.declared.Opening.{Opening}
 use Rattle.desk.specs.declared.Opening.the-variants.{Opened}
 use Rattle.desk.specs.declared.Booking.{Booking}
@@ -106,14 +107,20 @@ given-at desk asked clock places near =
 
 -- what no row refuses fits
 pub fit-to-open : (desk : Desk) (asked : Request) (bytes : List ℕ) (clock room : ℕ) → openRefusal desk asked bytes clock room ≡ none
-    → (askRefusal asked bytes ≡ none) × (distanceOf desk clock < 95) × (length (requestAt (givenPlace desk clock) asked bytes) ≤ room)
+    → (askRefusal asked bytes ≡ none)
+    × (distanceOf desk clock < 95)
+    × (length (requestAt (givenPlace desk clock) asked bytes) ≤ room)
+    × (IsFolderHeld desk asked → ⊥)
 unfolding openRefusal
 fit-to-open desk asked bytes clock room e =
     let request : List ℕ = requestAt (givenPlace desk clock) asked bytes in
-    let a = or-none (raised Denied (askRefusal asked bytes)) (firstOf (placeTests (distanceOf desk clock) request room)) e in
-    let b = first-false (leb 95 (distanceOf desk clock)) NoneFree _ (a .1) in
+    let a =
+    or-none (raised Denied (askRefusal asked bytes))
+    (firstOf (test (isFolderHeld desk asked) FolderHeld ∷ placeTests (distanceOf desk clock) request room)) e in
+    let f = first-false (isFolderHeld desk asked) FolderHeld _ (a .1) in
+    let b = first-false (leb 95 (distanceOf desk clock)) NoneFree _ (f .1) in
     let d = first-false (ltb room (length request)) NoRoom _ (b .1) in
-    (raised-none Denied (askRefusal asked bytes) (a .0), leb-false _ _ (b .0), ltb-false _ _ (d .0))
+    (raised-none Denied (askRefusal asked bytes) (a .0), leb-false _ _ (b .0), ltb-false _ _ (d .0), decides-folder-held desk asked .not-so (f .0))
 
 -- of what opening answers, by its contract
 module _ (desk : Desk) (asked : Request) (bytes : List ℕ) (clock : ℕ) (room : List ℕ) (r : AfterOpen) (room′ : List ℕ)
@@ -159,11 +166,16 @@ module _ (desk : Desk) (asked : Request) (bytes : List ℕ) (clock : ℕ) (room 
       let o = open-refused (openRefusal desk asked bytes clock (length room)) _ _ f (sym e ∙ opens .0) in
       (opens .1 ∙ rw o, opens .2 ∙ rw o)
 
+pub empty-place : (n place : ℕ) → getD (replicate n noTicket) place noTicket ≡ noTicket
+empty-place zero place = refl
+empty-place (suc n) zero = refl
+empty-place (suc n) (suc place) = empty-place n place
+
 -- 01: "A fresh desk has no tickets and its next turn at 161": whatever may be asked is opened there, with room for the longest telegram
 pub fresh-opens : (asked : Request) (bytes : List ℕ) (clock : ℕ) (room : List ℕ) (r : AfterOpen) (room′ : List ℕ)
     → Opens freshDesk asked bytes clock room r room′ → askRefusal asked bytes ≡ none → 494 ≤ length room
     → r .answer ≡ Opened 161 (length (requestAt 0 asked bytes))
-unfolding openRefusal givenPlace distanceOf
+unfolding openRefusal givenPlace distanceOf IsFolderHeld
 fresh-opens asked bytes clock room r room′ opens allowed wide =
     let near : distanceOf freshDesk clock ≡ 0 =
     first-at (λ k. isFree clock (ticketAt freshDesk (placeFrom 0 k))) 95 0 (omega arith) (λ i l. absurd (omega arith)) refl in
@@ -171,7 +183,9 @@ fresh-opens asked bytes clock room r room′ opens allowed wide =
     let sized = length-messageFor (asked .unit) 161 (asked .sort) (asked .register) bytes in
     let long : length (requestAt 0 asked bytes) ≤ 494 =
     telegram-long (messageFor (asked .unit) 161 (asked .sort) (asked .register) bytes) (omega (arith, sized, can .0)) in
-    opens .0 ∙ rw (near, allowed) (simp (le-ltb (length room) (length (requestAt 0 asked bytes)) (omega arith)))
+    let nobody : isFolderHeld freshDesk asked ≡ false =
+    told-false (decides-folder-held freshDesk asked) (λ held. true≢false (sym (held .1 .2 .0) ∙ ap (λ (t : Ticket). t .live) (empty-place 95 (held .1 .0)))) in
+    opens .0 ∙ rw (near, allowed, nobody) (simp (le-ltb (length room) (length (requestAt 0 asked bytes)) (omega arith)))
 
 -- ---- 01: "A booked reply closes the ticket [..] and frees the address", "Cancel closes the ticket that is open on the address", "Expire
 -- closes one ticket": each closes one and leaves the others and the turn
@@ -222,12 +236,12 @@ fit-to-book desk frame room e =
     (raised-none Unread (readRefusal frame room) (a .0), fit .0, fit .1, fit .2, fit .3)
 
 module _ (desk : Desk) (frame room : List ℕ) (r : AfterReply) (room′ : List ℕ) (replies : Replies desk frame room r room′) where
-  pub booked-right : (job address sort n : ℕ) → r .answer ≡ Booked job address sort n
-      → Books desk frame (length room) (fieldsIn frame) job address sort n (r .desk) × (room′ ≡ over (dataIn frame) room)
+  pub booked-right : (job address sort n folder : ℕ) → r .answer ≡ Booked job address sort n folder
+      → Books desk frame (length room) (fieldsIn frame) job address sort n folder (r .desk) × (room′ ≡ over (dataIn frame) room)
   unfolding readFrame
-  booked-right job address sort n e =
+  booked-right job address sort n folder e =
       let t : Fields = fieldsIn frame in
-      let b = booked-told (replyRefusal desk frame (length room)) (ticketOn desk (t .destination)) t job address sort n (sym e ∙ replies .0) in
+      let b = booked-told (replyRefusal desk frame (length room)) (ticketOn desk (t .destination)) t job address sort n folder (sym e ∙ replies .0) in
       let fit = fit-to-book desk frame (length room) (b .0) in
       let there : r .desk ≡ answeredOn desk (t .destination) = replies .1 ∙ rw (b .0) in (
         record {
@@ -239,6 +253,7 @@ module _ (desk : Desk) (frame room : List ℕ) (r : AfterReply) (room′ : List 
           register-fits = rw (b .2) (fit .4);
           type-answered = b .3;
           size-answered = b .4;
+          folder-answered = rw (b .2) (b .5);
           closes = rw (b .2, there) (answers-alone desk (t .destination) (fit .1));
         },
         replies .2 ∙ rw (b .0),
@@ -274,7 +289,7 @@ pub nearby-reply : (frame : List ℕ) (offered : ℕ) (t : Fields) → readFrame
 nearby-reply frame offered t e m near = altered-reply frame offered t e m (near .same-length) (burst-seen (combined (messageOf frame) m) (nearby-burst near))
 
 -- ---- 01: "Cancel closes the ticket that is open on the address for that job now [..] and answers job and address." 02, #102: "Cancel takes a
--- clock reading", from which on the address rests.
+-- clock reading", from which on the address rests. #110: "Replies, cancels and expiries answer the folder as well".
 
 pub fit-to-cancel : (desk : Desk) (job address : ℕ) → cancelRefusal desk job address ≡ none → OpenOn desk address × (ticketOn desk address .asked .job ≡ job)
 unfolding cancelRefusal
@@ -282,14 +297,18 @@ fit-to-cancel desk job address e =
     let b = first-false (not (isTheirs (ticketOn desk address) job)) NotTheirs none e in
     decides-and (decides-set (ticketOn desk address .live)) (decides-eq (ticketOn desk address .asked .job) job) .so (not-false _ (b .0))
 
-pub cancelled-right : (desk : Desk) (job address clock : ℕ) (r : AfterClose) (job′ address′ : ℕ)
-    → Cancels desk job address clock r → r .answer ≡ Closed job′ address′
-    → (job′ ≡ job) × (address′ ≡ address) × (ticketOn desk address .asked .job ≡ job) × ClosedAlone desk address (withdrawnAt clock) (r .desk)
-cancelled-right desk job address clock r job′ address′ c e =
-    let a = closed-told (cancelRefusal desk job address) (ticketOn desk address) address job′ address′ (sym e ∙ c .0) in
+pub cancelled-right : (desk : Desk) (job address clock : ℕ) (r : AfterClose) (job′ address′ folder : ℕ)
+    → Cancels desk job address clock r → r .answer ≡ Closed job′ address′ folder
+    → (job′ ≡ job)
+    × (address′ ≡ address)
+    × (ticketOn desk address .asked .job ≡ job)
+    × ClosedAlone desk address (withdrawnAt clock) (r .desk)
+    × (folder ≡ ticketOn desk address .asked .folder)
+cancelled-right desk job address clock r job′ address′ folder c e =
+    let a = closed-told (cancelRefusal desk job address) (ticketOn desk address) address job′ address′ folder (sym e ∙ c .0) in
     let fit = fit-to-cancel desk job address (a .0) in
     let there : r .desk ≡ withdrawnOn desk address clock = c .1 ∙ rw (a .0) in
-    (a .1 ∙ fit .1, a .2, fit .1, rw there (withdraws-alone desk address clock (fit .0)))
+    (a .1 ∙ fit .1, a .2, fit .1, rw there (withdraws-alone desk address clock (fit .0)), a .3)
 
 -- ---- 01: "Expire closes one ticket, the due one with the lowest address, and answers job and address."
 
@@ -301,11 +320,11 @@ fit-to-expire desk clock e =
     let near : place < 95 = leb-false _ _ (first-false (leb 95 place) NothingDue none e .0) in
     (near, rw (on-host desk place) (decides-due clock (ticketAt desk place) .so (due-ended desk clock .there near)))
 
-pub expired-right : (desk : Desk) (clock : ℕ) (r : AfterClose) (job address : ℕ) → Expires desk clock r → r .answer ≡ Closed job address
-    → Expired desk clock job address (r .desk)
-expired-right desk clock r job address x e =
+pub expired-right : (desk : Desk) (clock : ℕ) (r : AfterClose) (job address folder : ℕ) → Expires desk clock r → r .answer ≡ Closed job address folder
+    → Expired desk clock job address folder (r .desk)
+expired-right desk clock r job address folder x e =
     let place : ℕ = duePlace desk clock in
-    let a = closed-told (expireRefusal desk clock) (ticketOn desk (161 + place)) (161 + place) job address (sym e ∙ x .0) in
+    let a = closed-told (expireRefusal desk clock) (ticketOn desk (161 + place)) (161 + place) job address folder (sym e ∙ x .0) in
     let fit = fit-to-expire desk clock (a .0) in
     let there : r .desk ≡ withdrawnOn desk (161 + place) clock = x .1 ∙ rw (a .0) in
     record {
@@ -315,6 +334,7 @@ expired-right desk clock r job address x e =
           (rw (le-leb 161 other h) at found);
       last = omega (arith, a .2, fit .0);
       theirs = rw (a .2) (a .1);
+      folder-answered = rw (a .2) (a .3);
       closes = rw (a .2, there) (withdraws-alone desk (161 + place) clock (fit .1 .0));
     }
 
@@ -353,8 +373,8 @@ pub closed-plainly : {desk : Desk} {address : ℕ} {left : Ticket} {desk′ : De
     × (desk′ .turn ≡ desk .turn)
 closed-plainly c = (c .was-open, c .closed, c .others, c .turn-kept)
 
-pub books-plainly : {desk : Desk} {frame : List ℕ} {room : ℕ} {t : Fields} {job address sort n : ℕ} {desk′ : Desk}
-    → Books desk frame room t job address sort n desk′
+pub books-plainly : {desk : Desk} {frame : List ℕ} {room : ℕ} {t : Fields} {job address sort n folder : ℕ} {desk′ : Desk}
+    → Books desk frame room t job address sort n folder desk′
     → (readFrame frame room ≡ Telegram t)
     × (address ≡ t .destination)
     × (job ≡ ticketOn desk address .asked .job)
@@ -363,19 +383,31 @@ pub books-plainly : {desk : Desk} {frame : List ℕ} {room : ℕ} {t : Fields} {
     × RegisterFits (ticketOn desk address .asked .register) (t .sort) (t .register)
     × (sort ≡ t .sort)
     × (n ≡ t .size)
+    × (folder ≡ ticketOn desk address .asked .folder)
     × ClosedAlone desk address noTicket desk′
-books-plainly b =
-    (b .was-read, b .for-address, b .theirs, b .from-module, b .kind-fits, b .register-fits, b .type-answered, b .size-answered, b .closes)
+books-plainly b = (
+  b .was-read,
+  b .for-address,
+  b .theirs,
+  b .from-module,
+  b .kind-fits,
+  b .register-fits,
+  b .type-answered,
+  b .size-answered,
+  b .folder-answered,
+  b .closes,
+)
 
-pub expired-plainly : {desk : Desk} {clock job address : ℕ} {desk′ : Desk} → Expired desk clock job address desk′
+pub expired-plainly : {desk : Desk} {clock job address folder : ℕ} {desk′ : Desk} → Expired desk clock job address folder desk′
     → (ticketOn desk address .live ≡ true)
     × (ticketOn desk address .asked .wait ≤ age clock (ticketOn desk address .opened))
     × ((other : ℕ) → 161 ≤ other → other < address
     → (ticketOn desk other .live ≡ true) × (ticketOn desk other .asked .wait ≤ age clock (ticketOn desk other .opened)) → ⊥)
     × (address ≤ 255)
     × (job ≡ ticketOn desk address .asked .job)
+    × (folder ≡ ticketOn desk address .asked .folder)
     × ClosedAlone desk address (withdrawnAt clock) desk′
-expired-plainly e = (e .due .0, e .due .1, e .lowest, e .last, e .theirs, e .closes)
+expired-plainly e = (e .due .0, e .due .1, e .lowest, e .last, e .theirs, e .folder-answered, e .closes)
 
 -- ---- looking at an address shows the ticket that is open there, or when its last one was cancelled or expired, or nothing
 

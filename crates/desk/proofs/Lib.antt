@@ -4,3 +4,4 @@ pub mod Answers
 pub mod Laws
 pub mod Passed
 pub mod Count
+pub mod Folder

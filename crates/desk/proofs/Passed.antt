@@ -26,7 +26,7 @@ use Rattle.desk.specs.declared.Booking.{Booking}
 use Rattle.desk.specs.declared.Booking.the-variants.{Booked, Refused}
 use Rattle.desk.specs.declared.Desk.{Desk}
 use Rattle.desk.specs.declared.Fault.{Fault}
-use Rattle.desk.specs.declared.Fault.the-variants.{Denied, NoneFree, NoRoom, Unread, Misfit, NotTheirs, NothingDue}
+use Rattle.desk.specs.declared.Fault.the-variants.{Denied, FolderHeld, NoneFree, NoRoom, Unread, Misfit, NotTheirs, NothingDue}
 
 -- of the desk's refusals only the reader's has number 3
 three-unread : (f : Fault) → faultNumber f ≡ 3 → (g : Unreadable) × (f ≡ Unread g)
@@ -36,6 +36,7 @@ three-unread (Denied ask.NotAModule) e = absurd (omega arith)
 three-unread (Denied ask.NotARequest) e = absurd (omega arith)
 three-unread (Denied ask.WrongData) e = absurd (omega arith)
 three-unread (Denied ask.WrongWait) e = absurd (omega arith)
+three-unread FolderHeld e = absurd (omega arith)
 three-unread NoneFree e = absurd (omega arith)
 three-unread NoRoom e = absurd (omega arith)
 three-unread (Misfit fit.Withdrawn) e = absurd (omega arith)
@@ -62,7 +63,7 @@ module _ (desk : Desk) (frame room : List ℕ) (r : AfterReply) (room′ : List 
   reply-place told = go (r .answer) refl told
     where
       go : (a : Booking) → r .answer ≡ a → bookTold a ≡ some 3 → FirstFaulty frame (bookPlace a)
-      go (Booked job address sort n) is e = clash (cc)
+      go (Booked job address sort n folder) is e = clash (cc)
       go (Refused f) is e =
           let u = three-unread f (number-of e) in
           let refusal : replyRefusal desk frame (length room) ≡ some (Unread (u .0)) =
@@ -81,6 +82,7 @@ module _ (desk : Desk) (frame room : List ℕ) (r : AfterReply) (room′ : List 
 pub fault-unplaced : (f : Fault) → faultNumber f ≢ 3 → faultPlace f ≡ 0
 fault-unplaced (Unread g) other = fault-no-place g other
 fault-unplaced (Denied g) other = refl
+fault-unplaced FolderHeld other = refl
 fault-unplaced NoneFree other = refl
 fault-unplaced NoRoom other = refl
 fault-unplaced (Misfit g) other = refl
@@ -88,7 +90,7 @@ fault-unplaced NotTheirs other = refl
 fault-unplaced NothingDue other = refl
 
 pub reply-no-place : (a : Booking) → bookTold a ≢ some 3 → bookPlace a ≡ 0
-reply-no-place (Booked job address sort n) other = refl
+reply-no-place (Booked job address sort n folder) other = refl
 reply-no-place (Refused f) other = fault-unplaced f (λ e. other (ap some e))
 
 -- the call `place` gives the place that these laws speak of

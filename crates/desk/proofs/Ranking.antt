@@ -1,4 +1,4 @@
--- Rows 10 to 22 and 61 are tested as the papers word them, in the order of each call: what a call refuses is what its rows give.
+-- Rows 10 to 22, 61 and 75 are tested as the papers word them, in the order of each call: what a call refuses is what its rows give.
 -- Assumes nothing.
 use mathlib.Core.Path.{_≡_, refl, ap, _∙_}
 use mathlib.Core.Bool.{true, false}
@@ -7,34 +7,36 @@ use mathlib.Core.Logic.{_≢_, _⊎_}
 use mathlib.Core.Option.{Option, some, none}
 use Prim.Native.Nat.{ℕ, _+_, _-_, _%_, _≤_, _<_}
 use native.Mathlib.Omega.{arith}
-use borrow.Author.Tests.{leb-true, leb-false}
-use lib.Dec.{leb}
+use borrow.Author.Tests.{leb-true, leb-false, ltb-true, ltb-false}
+use lib.Dec.{leb, ltb}
 use lib.ListN.{length}
 use Rattle.first.proofs.Laws.{Ended, ended}
 use Rattle.request.proofs.Laws.{ask-ranked}
 use Rattle.request.specs.Request.{IsNoJob, IsNotAModule, IsNotARequest, IsWrongData, IsWrongWait, askRows, askRefusal}
 use Rattle.request.specs.declared.Request.{Request}
 use Rattle.rows.proofs.Laws.{Decides, decides-lt, decides-eq, decides-not, decides-and, decides-set, ranked, _otherwise_, ranked-append, ranked-up, numbered}
-use Rattle.rows.specs.Rows.{Ranked, Numbered, row, firstOf, passedUp, raised}
+use Rattle.rows.specs.Rows.{Ranked, Numbered, row, test, firstOf, passedUp, raised}
 use Rattle.telegram.proofs.Ranking.{read-ranked}
 use Rattle.telegram.specs.Read.{readRows, readRefusal, fieldsIn}
 use Rattle.telegram.specs.Read.{faultNumber as readNumber}
 use Rattle.telegram.specs.declared.Fields.{Fields}
-use Rattle.ticket.proofs.Laws.{fit-ranked, decides-due, decides-free, open-or-rests, taken-not-free}
+use Rattle.ticket.proofs.Laws.{fit-ranked, decides-due, decides-free, decides-barred, open-or-rests, taken-not-free}
 use Rattle.ticket.specs.Due.{age, IsDue, isDue}
 use Rattle.ticket.specs.Fit.{KindFits, RegisterFits, IsWithdrawn, IsNoTicket, IsOtherModule, IsOtherKind, IsOtherRegister, fitRows, fitRefusal}
+use Rattle.ticket.specs.Folder.{Bars, isBarred}
 use Rattle.ticket.specs.Rest.{Rests, isFree}
 use Rattle.ticket.specs.Ticket.{Open}
 use Rattle.ticket.specs.declared.Ticket.{Ticket}
 use Rattle.desk.specs.Close.{IsNotTheirs, cancelRows, cancelRefusal, IsNothingDue, expireRows, duePlace, expireRefusal, cancelTests, expireTests}
 use Rattle.desk.specs.Close.{closeAnswer, closeTold, Cancels, Expires}
+use Rattle.desk.specs.Folder.{IsFolderHeld, holderPlace, isFolderHeld}
 use Rattle.desk.specs.Open.{placeFrom, distanceOf, givenPlace, requestAt, IsNoneFree, IsNoRoom, placeRows, placeTests, openRefusal, openRows}
 use Rattle.desk.specs.Open.{openAnswer, openTold, Opens}
 use Rattle.desk.specs.Reply.{bookRows, replyRows, bookRefusal, replyRefusal, bookAnswer, bookTold, Replies}
 use Rattle.desk.specs.Desk.{ticketAt, ticketOn, faultNumber}
 use Rattle.desk.specs.declared.Desk.{Desk}
 use Rattle.desk.specs.declared.Fault.{Fault}
-use Rattle.desk.specs.declared.Fault.the-variants.{Denied, Unread, Misfit}
+use Rattle.desk.specs.declared.Fault.the-variants.{Denied, FolderHeld, Unread, Misfit}
 use Rattle.desk.specs.declared.AfterOpen.{AfterOpen}
 use Rattle.desk.specs.declared.AfterReply.{AfterReply}
 use Rattle.desk.specs.declared.AfterClose.{AfterClose}
@@ -72,15 +74,42 @@ module _ (desk : Desk) (clock : ℕ) where
           let given : ℕ = placeFrom (desk .turn) (distanceOf desk clock) in
           taken-not-free clock (ticketAt desk given) (taken given (omega arith)) (decides-free clock (ticketAt desk given) .so (search-ended desk clock .there h))
 
+-- ---- 75
+
+-- where the search for a holder of the folder has ended
+holder-ended : (desk : Desk) (job folder : ℕ) → Ended (λ k. isBarred job folder (ticketAt desk k)) 95 (holderPlace desk job folder)
+unfolding holderPlace
+holder-ended desk job folder = ended (λ k. isBarred job folder (ticketAt desk k)) 95
+
+decides-holder : (desk : Desk) (job folder : ℕ)
+    → Decides (ltb (holderPlace desk job folder) 95) ((place : ℕ) × (place < 95) × Bars job folder (ticketAt desk place))
+decides-holder desk job folder = record { so = holder; not-so = nobody }
+  where
+    holder : ltb (holderPlace desk job folder) 95 ≡ true → (place : ℕ) × (place < 95) × Bars job folder (ticketAt desk place)
+    holder e =
+        let h : holderPlace desk job folder < 95 = ltb-true (holderPlace desk job folder) 95 e in
+        (holderPlace desk job folder, h, decides-barred job folder (ticketAt desk (holderPlace desk job folder)) .so (holder-ended desk job folder .there h))
+
+    nobody : ltb (holderPlace desk job folder) 95 ≡ false → ((place : ℕ) × (place < 95) × Bars job folder (ticketAt desk place)) → ⊥
+    nobody e b =
+        let far : 95 ≤ holderPlace desk job folder = ltb-false (holderPlace desk job folder) 95 e in
+        decides-barred job folder (ticketAt desk (b .0)) .not-so (holder-ended desk job folder .before (b .0) (omega (arith, b .1, far))) (b .2)
+
+pub decides-folder-held : (desk : Desk) (asked : Request) → Decides (isFolderHeld desk asked) (IsFolderHeld desk asked)
+unfolding IsFolderHeld isFolderHeld
+decides-folder-held desk asked = decides-and (decides-not (decides-eq (asked .folder) 0)) (decides-holder desk (asked .job) (asked .folder))
+
 pub open-ranked : (desk : Desk) (asked : Request) (bytes : List ℕ) (clock room : ℕ)
     → Ranked (openRows desk asked bytes clock room) (openRefusal desk asked bytes clock room)
 unfolding openRows openRefusal placeRows IsNoRoom
 open-ranked desk asked bytes clock room =
-    ranked-append (passedUp Denied (askRows asked bytes)) (placeRows desk clock request room)
-    (raised Denied (askRefusal asked bytes)) (firstOf (placeTests (distanceOf desk clock) request room))
+    ranked-append (passedUp Denied (askRows asked bytes)) (row (IsFolderHeld desk asked) FolderHeld ∷ placeRows desk clock request room)
+    (raised Denied (askRefusal asked bytes)) (firstOf (test (isFolderHeld desk asked) FolderHeld ∷ placeTests (distanceOf desk clock) request room))
     (ranked-up Denied (askRows asked bytes) (askRefusal asked bytes) (ask-ranked asked bytes))
-    (λ n. ranked (placeTests (distanceOf desk clock) request room) (placeRows desk clock request room)
-    (decides-none-free desk clock otherwise λ n₁₅.
+    (λ n. ranked (test (isFolderHeld desk asked) FolderHeld ∷ placeTests (distanceOf desk clock) request room)
+    (row (IsFolderHeld desk asked) FolderHeld ∷ placeRows desk clock request room)
+    (decides-folder-held desk asked otherwise λ n₇₅.
+    decides-none-free desk clock otherwise λ n₁₅.
     decides-lt room (length request) otherwise λ n₁₆. tt))
   where
     request : List ℕ
@@ -137,11 +166,11 @@ open-tells (some f) address n = refl
 
 pub open-exactly : (desk : Desk) (asked : Request) (bytes : List ℕ) (clock : ℕ) (room : List ℕ) (r : AfterOpen) (room′ : List ℕ)
     → Opens desk asked bytes clock room r room′
-    → Numbered (passedUp faultNumber (openRows desk asked bytes clock (length room))) (10 ∷ 11 ∷ 12 ∷ 13 ∷ 14 ∷ 15 ∷ 16 ∷ []) (openTold (r .answer))
+    → Numbered (passedUp faultNumber (openRows desk asked bytes clock (length room))) (10 ∷ 11 ∷ 12 ∷ 13 ∷ 14 ∷ 75 ∷ 15 ∷ 16 ∷ []) (openTold (r .answer))
 unfolding openRows placeRows askRows
 open-exactly desk asked bytes clock room r room′ o =
     numbered faultNumber (openRows desk asked bytes clock (length room)) (openRefusal desk asked bytes clock (length room))
-    (open-ranked desk asked bytes clock (length room)) (10 ∷ 11 ∷ 12 ∷ 13 ∷ 14 ∷ 15 ∷ 16 ∷ []) refl refl (openTold (r .answer))
+    (open-ranked desk asked bytes clock (length room)) (10 ∷ 11 ∷ 12 ∷ 13 ∷ 14 ∷ 75 ∷ 15 ∷ 16 ∷ []) refl refl (openTold (r .answer))
     (ap openTold (o .0) ∙ open-tells (openRefusal desk asked bytes clock (length room)) _ _)
 
 pub book-tells : (o : Option Fault) (ticket : Ticket) (t : Fields) → bookTold (bookAnswer o ticket t) ≡ raised faultNumber o
@@ -185,12 +214,16 @@ pub open-plainly : (desk : Desk) (asked : Request) (bytes : List ℕ) (clock : �
     ∷ row ((asked .sort ≡ 4) ⊎ ((asked .sort ≡ 5) ⊎ ((asked .sort ≡ 6) ⊎ ((asked .sort ≡ 7) ⊎ (asked .sort ≡ 9)))) → ⊥) 12
     ∷ row ((240 < length bytes) ⊎ ((asked .sort ≡ 4) × (0 < length bytes))) 13
     ∷ row ((1 ≤ asked .wait) × (asked .wait ≤ 60000) → ⊥) 14
+    ∷ row ((asked .folder ≢ 0)
+    × ((place : ℕ)
+    × (place < 95)
+    × ((ticketAt desk place .live ≡ true) × (ticketAt desk place .asked .folder ≡ asked .folder) × (ticketAt desk place .asked .job ≢ asked .job)))) 75
     ∷ row ((place : ℕ) → place < 95
     → (ticketAt desk place .live ≡ true) ⊎ ((ticketAt desk place .withdrawn ≡ true) × (age clock (ticketAt desk place .closed) < 1000))) 15
     ∷ row (length room < length (requestAt (givenPlace desk clock) asked bytes)) 16
     ∷ [])
-    (10 ∷ 11 ∷ 12 ∷ 13 ∷ 14 ∷ 15 ∷ 16 ∷ []) (openTold (r .answer))
-unfolding openRows placeRows askRows IsNoJob IsNotAModule IsNotARequest IsWrongData IsWrongWait IsNoneFree IsNoRoom
+    (10 ∷ 11 ∷ 12 ∷ 13 ∷ 14 ∷ 75 ∷ 15 ∷ 16 ∷ []) (openTold (r .answer))
+unfolding openRows placeRows askRows IsNoJob IsNotAModule IsNotARequest IsWrongData IsWrongWait IsFolderHeld IsNoneFree IsNoRoom
 open-plainly desk asked bytes clock room r room′ o = open-exactly desk asked bytes clock room r room′ o
 
 pub reply-plainly : (desk : Desk) (frame room : List ℕ) (r : AfterReply) (room′ : List ℕ) → Replies desk frame room r room′

@@ -56,16 +56,16 @@ expireTests place = test (leb 95 place) NothingDue ∷ []
 unfoldable pub expireRefusal : Desk → ℕ → Option Fault
 expireRefusal desk clock = firstOf (expireTests (duePlace desk clock))
 
--- ---- both answer job and address
+-- ---- both answer job and address, and by 02, #110, the folder
 
 abbrev pub closeAnswer : Option Fault → Ticket → ℕ → Closing
 closeAnswer (some f) ticket address = Refused f
-closeAnswer none ticket address = Closed (ticket .asked .job) address
+closeAnswer none ticket address = Closed (ticket .asked .job) address (ticket .asked .folder)
 
 -- the number that an answer tells
 abbrev pub closeTold : Closing → Option ℕ
 closeTold (Refused f) = some (faultNumber f)
-closeTold (Closed job address) = none
+closeTold (Closed job address folder) = none
 
 -- the desk without the ticket that was cancelled or expired at a clock. 02, #102: "an address closed by cancel or expiry rests" from then
 abbrev pub withdrawnOn : Desk → ℕ → ℕ → Desk

@@ -12,7 +12,7 @@ use Rattle.ticket.specs.Ticket.{Open, noTicket}
 use Rattle.ticket.specs.declared.Ticket.{Ticket}
 use Rattle.desk.specs.declared.Desk.{Desk}
 use Rattle.desk.specs.declared.Fault.{Fault}
-use Rattle.desk.specs.declared.Fault.the-variants.{Denied, NoneFree, NoRoom, Unread, Misfit, NotTheirs, NothingDue}
+use Rattle.desk.specs.declared.Fault.the-variants.{Denied, FolderHeld, NoneFree, NoRoom, Unread, Misfit, NotTheirs, NothingDue}
 use Rattle.desk.specs.declared.Seen.{Seen}
 use Rattle.desk.specs.declared.Seen.the-variants as seen
 
@@ -39,6 +39,7 @@ putAt desk place ticket = record { turn = desk .turn; tickets = set (desk .ticke
 -- the paper's number of each refusal; 10 to 14, 61, 17 to 20 and the reader's are told where they are judged
 abbrev pub faultNumber : Fault → ℕ
 faultNumber (Denied f) = askNumber f
+faultNumber FolderHeld = 75
 faultNumber NoneFree = 15
 faultNumber NoRoom = 16
 faultNumber (Unread f) = readNumber f
@@ -49,6 +50,7 @@ faultNumber NothingDue = 22
 -- the place that comes with the reader's 3; 0 with all else
 abbrev pub faultPlace : Fault → ℕ
 faultPlace (Denied f) = 0
+faultPlace FolderHeld = 0
 faultPlace NoneFree = 0
 faultPlace NoRoom = 0
 faultPlace (Unread f) = readPlace f

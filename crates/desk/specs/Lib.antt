@@ -1,4 +1,5 @@
 pub mod Desk
+pub mod Folder
 pub mod Open
 pub mod Reply
 pub mod Close

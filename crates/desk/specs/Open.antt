@@ -1,4 +1,4 @@
--- Opening a ticket: rows 10 to 16, the address that is given, the next turn, and the request telegram.
+-- Opening a ticket: rows 10 to 14, 75, 15 and 16, the address that is given, the next turn, and the request telegram.
 -- Assumes nothing.
 use mathlib.Core.Path.{_≡_}
 use mathlib.Core.List.{List, [], _∷_, _++_}
@@ -17,9 +17,10 @@ use Rattle.ticket.specs.Rest.{Rests, isFree}
 use Rattle.ticket.specs.Ticket.{Open, newTicket}
 use Rattle.ticket.specs.declared.Ticket.{Ticket}
 use Rattle.desk.specs.Desk.{ticketAt, faultNumber}
+use Rattle.desk.specs.Folder.{IsFolderHeld, isFolderHeld}
 use Rattle.desk.specs.declared.Desk.{Desk}
 use Rattle.desk.specs.declared.Fault.{Fault}
-use Rattle.desk.specs.declared.Fault.the-variants.{Denied, NoneFree, NoRoom, Unread, Misfit, NotTheirs, NothingDue}
+use Rattle.desk.specs.declared.Fault.the-variants.{Denied, FolderHeld, NoneFree, NoRoom, Unread, Misfit, NotTheirs, NothingDue}
 use Rattle.desk.specs.declared.Opening.{Opening}
 use Rattle.desk.specs.declared.Opening.the-variants.{Opened, Refused}
 use Rattle.desk.specs.declared.AfterOpen.{AfterOpen}
@@ -58,14 +59,16 @@ placeRows desk clock telegram room = row (IsNoneFree desk clock) NoneFree ∷ ro
 abbrev pub placeTests : ℕ → List ℕ → ℕ → List (Test Fault)
 placeTests distance telegram room = test (leb 95 distance) NoneFree ∷ test (ltb room (length telegram)) NoRoom ∷ []
 
--- what refuses an opening, in the order 10 to 16
+-- what refuses an opening, in the order 10 to 14, 75, 15, 16: "75 folder held by another job, after 14 and before 15"
 unfoldable pub openRefusal : Desk → Request → List ℕ → ℕ → ℕ → Option Fault
 openRefusal desk asked bytes clock room =
-    orLater (raised Denied (askRefusal asked bytes)) (firstOf (placeTests (distanceOf desk clock) (requestAt (givenPlace desk clock) asked bytes) room))
+    orLater (raised Denied (askRefusal asked bytes))
+    (firstOf (test (isFolderHeld desk asked) FolderHeld ∷ placeTests (distanceOf desk clock) (requestAt (givenPlace desk clock) asked bytes) room))
 
 unfoldable pub openRows : Desk → Request → List ℕ → ℕ → ℕ → List (Row Fault)
 openRows desk asked bytes clock room =
-    passedUp Denied (askRows asked bytes) ++ placeRows desk clock (requestAt (givenPlace desk clock) asked bytes) room
+    passedUp Denied (askRows asked bytes)
+    ++ (row (IsFolderHeld desk asked) FolderHeld ∷ placeRows desk clock (requestAt (givenPlace desk clock) asked bytes) room)
 
 -- ---- the answer, the desk and the buffer, each from the refusal
 
@@ -87,9 +90,11 @@ openDesk (some f) desk place ticket = desk
 openDesk none desk place ticket = withTicket desk place ticket
 
 -- 02, #108: "Opening reports how many addresses it considered: those from the turn up to and including the one given. Refusals carry it
--- too: 95 with 15, 0 with 10 to 14, and with 16 the count up to the address that would have been given."
+-- too: 95 with 15, 0 with 10 to 14, and with 16 the count up to the address that would have been given." #110, of 75: "#108's count is 0 with
+-- it."
 abbrev pub refusedCount : Fault → ℕ → ℕ
 refusedCount (Denied f) distance = 0
+refusedCount FolderHeld distance = 0
 refusedCount NoneFree distance = 95
 refusedCount NoRoom distance = distance + 1
 refusedCount (Unread f) distance = 0

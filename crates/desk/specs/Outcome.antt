@@ -61,7 +61,8 @@ pub record ClosedAlone (desk : Desk) (address : ℕ) (left : Ticket) (desk′ : 
 
 -- "A reply is first read as a telegram [..]. A read is answered by type 8, 0, 1 or 2, a write of any sort by 3, 0, 1 or 2. A datagram's
 -- register must equal the ticket's. [..] A booked reply closes the ticket, answers its job, address, type and data, and frees the address."
-pub record Books (desk : Desk) (frame : List ℕ) (room : ℕ) (t : Fields) (job address sort n : ℕ) (desk′ : Desk) : Type 0 where
+-- 02, #110: "Replies, cancels and expiries answer the folder as well".
+pub record Books (desk : Desk) (frame : List ℕ) (room : ℕ) (t : Fields) (job address sort n folder : ℕ) (desk′ : Desk) : Type 0 where
   pub was-read : readFrame frame room ≡ Telegram t
   pub for-address : address ≡ t .destination
   pub theirs : job ≡ ticketOn desk address .asked .job
@@ -70,12 +71,15 @@ pub record Books (desk : Desk) (frame : List ℕ) (room : ℕ) (t : Fields) (job
   pub register-fits : RegisterFits (ticketOn desk address .asked .register) (t .sort) (t .register)
   pub type-answered : sort ≡ t .sort
   pub size-answered : n ≡ t .size
+  pub folder-answered : folder ≡ ticketOn desk address .asked .folder
   pub closes : ClosedAlone desk address noTicket desk′
 
--- "Expire closes one ticket, the due one with the lowest address, and answers job and address." It rests from the call's clock on.
-pub record Expired (desk : Desk) (clock job address : ℕ) (desk′ : Desk) : Type 0 where
+-- "Expire closes one ticket, the due one with the lowest address, and answers job and address", and its folder. It rests from the call's clock
+-- on.
+pub record Expired (desk : Desk) (clock job address folder : ℕ) (desk′ : Desk) : Type 0 where
   pub due : IsDue clock (ticketOn desk address)
   pub lowest : (other : ℕ) → 161 ≤ other → other < address → IsDue clock (ticketOn desk other) → ⊥
   pub last : address ≤ 255
   pub theirs : job ≡ ticketOn desk address .asked .job
+  pub folder-answered : folder ≡ ticketOn desk address .asked .folder
   pub closes : ClosedAlone desk address (withdrawnAt clock) desk′

@@ -36,21 +36,22 @@ bookRefusal desk t = raised Misfit (fitRefusal (ticketOn desk (t .destination)) 
 unfoldable pub replyRefusal : Desk → List ℕ → ℕ → Option Fault
 replyRefusal desk frame room = orLater (raised Unread (readRefusal frame room)) (bookRefusal desk (fieldsIn frame))
 
--- ---- "A booked reply closes the ticket, answers its job, address, type and data, and frees the address."
+-- ---- "A booked reply closes the ticket, answers its job, address, type and data, and frees the address." 02, #110: "Replies, cancels and
+-- expiries answer the folder as well".
 
 abbrev pub bookAnswer : Option Fault → Ticket → Fields → Booking
 bookAnswer (some f) ticket t = Refused f
-bookAnswer none ticket t = Booked (ticket .asked .job) (t .destination) (t .sort) (t .size)
+bookAnswer none ticket t = Booked (ticket .asked .job) (t .destination) (t .sort) (t .size) (ticket .asked .folder)
 
 -- the number that an answer tells
 abbrev pub bookTold : Booking → Option ℕ
 bookTold (Refused f) = some (faultNumber f)
-bookTold (Booked job address sort n) = none
+bookTold (Booked job address sort n folder) = none
 
 -- the place that an answer tells, with the reader's 3; 0 for none
 abbrev pub bookPlace : Booking → ℕ
 bookPlace (Refused f) = faultPlace f
-bookPlace (Booked job address sort n) = 0
+bookPlace (Booked job address sort n folder) = 0
 
 -- the desk without the ticket that was answered. 02, #102: "Booked replies still free the address at once."
 abbrev pub answeredOn : Desk → ℕ → Desk

@@ -4,6 +4,7 @@ pub use request::Request;
 use ticket::NO_TICKET;
 pub use ticket::Ticket;
 ghost use Rattle.desk.specs.Desk.{Fresh, Looks, Numbers, Places, ticketOn, putAt};
+ghost use Rattle.desk.specs.Folder.{holderPlace, isFolderHeld};
 ghost use Rattle.desk.specs.Open.{Opens, PlacesAt, distanceOf, withTicket};
 ghost use Rattle.desk.specs.Reply.{Replies, answeredOn};
 ghost use Rattle.desk.specs.Close.{Cancels, Expires, Withdraws, duePlace, isTheirs};
@@ -24,6 +25,8 @@ pub struct Desk {
 pub enum Fault {
     // what is asked may not be sent
     Denied(request::Fault),
+    // an open ticket of another job holds its folder
+    FolderHeld,
     // every address is open or rests
     NoneFree,
     NoRoom,
@@ -42,14 +45,15 @@ pub enum Opening {
 }
 
 pub enum Booking {
-    // whose ticket it was: job and address; what came: type and number of data bytes
-    Booked(u32, u8, u8, usize),
+    // whose ticket it was: job and address; what came: type and number of data bytes; and the folder
+    // that the ticket held
+    Booked(u32, u8, u8, usize, u32),
     Refused(Fault),
 }
 
 pub enum Closing {
-    // the job and the address of the ticket that was closed
-    Closed(u32, u8),
+    // the job, the address and the folder of the ticket that was closed
+    Closed(u32, u8, u32),
     Refused(Fault),
 }
 
@@ -65,7 +69,8 @@ pub struct AfterOpen {
     pub desk: Desk,
     pub answer: Opening,
     // how many addresses were considered, up to and including the one given: 0 where the request may
-    // not be sent, 95 where none is free, and without room up to the one that would have been given
+    // not be sent or its folder is held, 95 where none is free, and without room up to the one that
+    // would have been given
     pub count: u8,
 }
 
@@ -95,6 +100,7 @@ pub fn number(fault: Fault) -> u8
 {
     match fault {
         Fault::Denied(denied) => request::number(denied),
+        Fault::FolderHeld => 75,
         Fault::NoneFree => 15,
         Fault::NoRoom => 16,
         Fault::Unread(unread) => telegram::number(unread),
@@ -110,6 +116,7 @@ pub fn place(fault: Fault) -> usize
 {
     match fault {
         Fault::Denied(_) => 0,
+        Fault::FolderHeld => 0,
         Fault::NoneFree => 0,
         Fault::NoRoom => 0,
         Fault::Unread(unread) => telegram::place(unread),
@@ -145,9 +152,23 @@ pub fn open(desk: Desk, asked: Request, data: &[u8], clock: u32, room: &mut [u8]
             count: 0,
         },
         request::Asking::Allowed => {
+            if is_folder_held(desk, asked) {
+                return AfterOpen {
+                    desk,
+                    answer: Opening::Refused(Fault::FolderHeld),
+                    count: 0,
+                };
+            }
             open_at(desk, free_distance(desk, clock), asked, data, clock, room)
         },
     }
+}
+
+// Whether an open ticket of another job holds the folder that is asked for. 0 is no folder.
+fn is_folder_held(desk: Desk, asked: Request) -> bool
+    ensures { λ r. ⌜ r ≡ isFolderHeld desk asked ⌝ }
+{
+    asked.folder != 0 && holder_place(desk, asked.job, asked.folder) < 95
 }
 
 // Rows 15 and 16, and the opening itself, at a distance from the turn.
@@ -218,7 +239,13 @@ pub fn reply(desk: Desk, frame: &[u8], room: &mut [u8]) -> AfterReply
             telegram::read(frame, room);
             AfterReply {
                 desk: answered_on(desk, t.destination),
-                answer: Booking::Booked(ticket.asked.job, t.destination, t.sort, t.size),
+                answer: Booking::Booked(
+                    ticket.asked.job,
+                    t.destination,
+                    t.sort,
+                    t.size,
+                    ticket.asked.folder,
+                ),
             }
         }
     }
@@ -265,7 +292,7 @@ pub fn expire(desk: Desk, clock: u32) -> AfterClose
     withdraw(desk, 161 + place, clock)
 }
 
-// Closes the ticket on a host address without a reply, and answers its job and address.
+// Closes the ticket on a host address without a reply, and answers its job, address and folder.
 fn withdraw(desk: Desk, address: u8, clock: u32) -> AfterClose
     requires { ⌜ 161 ≤ address ⌝ }
     ensures { λ r. ⌜ Withdraws desk address clock r ⌝ }
@@ -273,7 +300,7 @@ fn withdraw(desk: Desk, address: u8, clock: u32) -> AfterClose
     let ticket = ticket_on(desk, address);
     AfterClose {
         desk: put_at(desk, address - 161, withdrawn_at(clock)),
-        answer: Closing::Closed(ticket.asked.job, address),
+        answer: Closing::Closed(ticket.asked.job, address, ticket.asked.folder),
     }
 }
 
@@ -324,6 +351,21 @@ fn due_place(desk: Desk, clock: u32) -> u8
     while k < 95 {
         let place = k as usize;
         if ticket::is_due(desk.tickets[place], clock) {
+            return k;
+        }
+        k += 1;
+    }
+    k
+}
+
+// The lowest place whose ticket keeps the job off the folder; 95 where there is none.
+fn holder_place(desk: Desk, job: u32, folder: u32) -> u8
+    ensures { λ r. ⌜ r ≡ holderPlace desk job folder ⌝ }
+{
+    let mut k: u8 = 0;
+    while k < 95 {
+        let place = k as usize;
+        if ticket::bars(desk.tickets[place], job, folder) {
             return k;
         }
         k += 1;

@@ -81,7 +81,7 @@ fn open(d: Desk, w: Words, line: &[u8], out: &mut [u8]) -> Told {
     bad(d, out)
 }
 
-// Up to the data: job, module, type and register; the waiting time is still 0.
+// Up to the data: job, module, type and register; the waiting time and the folder are still 0.
 pub struct Ask {
     pub words: Words,
     pub asked: Request,
@@ -100,14 +100,16 @@ pub fn take_ask(w: Words, line: &[u8]) -> Ask {
             sort: byte(c.value),
             register: byte(d.value),
             wait: 0,
+            folder: 0,
         },
     }
 }
 
-// Behind the data: the waiting time and the clock; the folder between them is passed over.
+// Behind the data: the waiting time, the folder and the clock.
 struct Times {
     words: Words,
     wait: u32,
+    folder: u32,
     clock: u32,
 }
 
@@ -118,6 +120,7 @@ fn take_times(w: Words, line: &[u8]) -> Times {
     Times {
         words: c,
         wait: word32(a.value),
+        folder: word32(b.value),
         clock: word32(c.value),
     }
 }
@@ -125,6 +128,7 @@ fn take_times(w: Words, line: &[u8]) -> Times {
 fn open_now(d: Desk, ask: Ask, data: &[u8], times: Times, room: &mut [u8], out: &mut [u8]) -> Told {
     let mut asked = ask.asked;
     asked.wait = times.wait;
+    asked.folder = times.folder;
     let after = desk::open(d, asked, data, times.clock, room);
     let answer = after.answer;
     let at = opened(answer, after.count, out);
@@ -178,19 +182,18 @@ fn booked(answer: Booking, out: &mut [u8]) -> usize {
         Booking::Refused(fault) => {
             answers::refused_at(out, desk::number(fault), desk::place(fault))
         }
-        Booking::Booked(job, address, sort, size) => {
-            let at = whose(job, address, out);
-            let next = answers::field(out, at, b" type=", sort as u64);
-            answers::field(out, next, b" n=", size as u64)
-        }
+        Booking::Booked(job, address, sort, size, folder) => answers::form(
+            out,
+            b"ok job=# address=# type=# n=# folder=#",
+            &[
+                job as u64,
+                address as u64,
+                sort as u64,
+                size as u64,
+                folder as u64,
+            ],
+        ),
     }
-}
-
-// `ok` with the job and the address of a ticket.
-fn whose(job: u32, address: u8, out: &mut [u8]) -> usize {
-    let at = answers::ok(out);
-    let next = answers::field(out, at, b" job=", job as u64);
-    answers::field(out, next, b" address=", address as u64)
 }
 
 // desk.cancel JOB ADDRESS CLOCK
@@ -229,7 +232,11 @@ fn closed(after: desk::AfterClose, out: &mut [u8]) -> Told {
 fn closing(answer: Closing, out: &mut [u8]) -> usize {
     match answer {
         Closing::Refused(fault) => answers::refused(out, desk::number(fault)),
-        Closing::Closed(job, address) => whose(job, address, out),
+        Closing::Closed(job, address, folder) => answers::form(
+            out,
+            b"ok job=# address=# folder=#",
+            &[job as u64, address as u64, folder as u64],
+        ),
     }
 }
 
@@ -298,7 +305,8 @@ fn ticket_fields(t: Ticket, out: &mut [u8], at: usize) -> usize {
     let asked = t.asked;
     let a = request_fields(asked, out, at);
     let b = answers::field(out, a, b":", asked.wait as u64);
-    answers::field(out, b, b":", t.opened as u64)
+    let c = answers::field(out, b, b":", t.opened as u64);
+    answers::field(out, c, b":", asked.folder as u64)
 }
 
 fn request_fields(asked: Request, out: &mut [u8], at: usize) -> usize {

@@ -280,7 +280,7 @@ record Stands (job unit : ℕ) (box : FilterBox) (desk : Desk) (past : List Even
   of-box : (box .job ≡ job) × (box .unit ≡ unit)
   ticket : (a : ℕ) (p : Pass) (v : ℕ) → box .out ≡ Edge a p v
       → (wait : ℕ) × (clock : ℕ)
-      × (ticketOn desk a ≡ newTicket (record { job = job; unit = unit; sort = 5; register = edgeRegister p; wait = wait }) clock)
+      × (ticketOn desk a ≡ newTicket (record { job = job; unit = unit; sort = 5; register = edgeRegister p; wait = wait; folder = 0 }) clock)
 
 module _ (job unit : ℕ) (box : FilterBox) (desk : Desk) (past : List Event) (s : Stands job unit box desk past) where
   -- a call that was refused
@@ -306,7 +306,7 @@ module _ (job unit : ℕ) (box : FilterBox) (desk : Desk) (past : List Event) (s
 
       still : (a : ℕ) (p : Pass) (v : ℕ) → box .out ≡ Edge a p v
           → (wait : ℕ) × (clock′ : ℕ)
-          × (ticketOn (o .desk) a ≡ newTicket (record { job = job; unit = unit; sort = 5; register = edgeRegister p; wait = wait }) clock′)
+          × (ticketOn (o .desk) a ≡ newTicket (record { job = job; unit = unit; sort = 5; register = edgeRegister p; wait = wait; folder = 0 }) clock′)
       still a p v out =
           let t = s .ticket a p v out in
           (t .0, t .1, given .others a (λ same. not-there p v (out ∙ edge-same same refl refl)) ∙ t .2)
@@ -350,26 +350,26 @@ module _ (job unit : ℕ) (box : FilterBox) (desk : Desk) (past : List Event) (s
   stands-reply frame room r room′ box′ replying hears = go (r .answer) refl hears
     where
       go : (a : Booking) → r .answer ≡ a → HearsReply box a box′ → Stands job unit box′ (r .desk) (ofBooking a ∷ past)
-      go (Booked job′ address sort n) is told =
+      go (Booked job′ address sort n folder) is told =
           let was = replies-after desk frame room r room′ replying in
           stands-closed (booked address sort) address noTicket (r .desk) (eventOf desk (brings frame room) ∷ s .seen) box′
           (subst (λ (d : Desk). Night d (eventOf desk (brings frame room) ∷ s .seen)) (sym (was .0)) (step desk (s .seen) (s .night) (brings frame room)))
-          (booked-right desk frame room r room′ replying job′ address sort n is .0 .closes)
+          (booked-right desk frame room r room′ replying job′ address sort n folder is .0 .closes)
           (subst (λ (b : FilterBox). Follows b (booked address sort ∷ past)) (sym told) (follows-booked box past (s .follows) address sort))
-          (reply-same-box box (Booked job′ address sort n) box′ told)
+          (reply-same-box box (Booked job′ address sort n folder) box′ told)
           (λ a p v out. out)
       go (NotBooked f) is told =
           subst (λ (b : FilterBox). Stands job unit b (r .desk) (nothing ∷ past)) (sym told)
           (subst (λ (d : Desk). Stands job unit box d (nothing ∷ past)) (sym (reply-refusal-keeps desk frame room r room′ replying f is .0)) stands-nothing)
 
   -- a cancel or an expiry
-  stands-withdrawn : (address clock : ℕ) (desk′ : Desk) (seen′ : List Seen) (box′ : FilterBox) (job′ : ℕ) → Night desk′ seen′
-      → ClosedAlone desk address (withdrawnAt clock) desk′ → HearsClosing box (Closed job′ address) box′ → Stands job unit box′ desk′ (withdrawn address ∷ past)
+  stands-withdrawn : (address clock : ℕ) (desk′ : Desk) (seen′ : List Seen) (box′ : FilterBox) (job′ folder : ℕ) → Night desk′ seen′
+      → ClosedAlone desk address (withdrawnAt clock) desk′ → HearsClosing box (Closed job′ address folder) box′ → Stands job unit box′ desk′ (withdrawn address ∷ past)
   unfolding OutOn
-  stands-withdrawn address clock desk′ seen′ box′ job′ night′ alone told =
+  stands-withdrawn address clock desk′ seen′ box′ job′ folder night′ alone told =
       stands-closed (withdrawn address) address (withdrawnAt clock) desk′ seen′ box′ night′ alone
       (subst (λ (b : FilterBox). Follows b (withdrawn address ∷ past)) (sym told) (follows-withdrawn box past (s .follows) address))
-      (closing-same-box box (Closed job′ address) box′ told)
+      (closing-same-box box (Closed job′ address folder) box′ told)
       (λ a p v out. out)
 
   stands-cancel : (theirs address clock : ℕ) (r : AfterClose) (box′ : FilterBox) → Cancels desk theirs address clock r → HearsClosing box (r .answer) box′
@@ -377,10 +377,10 @@ module _ (job unit : ℕ) (box : FilterBox) (desk : Desk) (past : List Event) (s
   stands-cancel theirs address clock r box′ cancelling hears = go (r .answer) refl hears
     where
       go : (a : Closing) → r .answer ≡ a → HearsClosing box a box′ → Stands job unit box′ (r .desk) (ofClosing a ∷ past)
-      go (Closed job′ there) is told =
+      go (Closed job′ there folder) is told =
           let was = cancels-after desk theirs address clock r cancelling in
-          let right = cancelled-right desk theirs address clock r job′ there cancelling is in
-          stands-withdrawn there clock (r .desk) (eventOf desk (cancelsAt theirs address clock) ∷ s .seen) box′ job′
+          let right = cancelled-right desk theirs address clock r job′ there folder cancelling is in
+          stands-withdrawn there clock (r .desk) (eventOf desk (cancelsAt theirs address clock) ∷ s .seen) box′ job′ folder
           (subst (λ (d : Desk). Night d (eventOf desk (cancelsAt theirs address clock) ∷ s .seen)) (sym (was .0)) (step desk (s .seen) (s .night) (cancelsAt theirs address clock)))
           (subst (λ (x : ℕ). ClosedAlone desk x (withdrawnAt clock) (r .desk)) (sym (right .1)) (right .3))
           told
@@ -393,11 +393,11 @@ module _ (job unit : ℕ) (box : FilterBox) (desk : Desk) (past : List Event) (s
   stands-expire clock r box′ expiring hears = go (r .answer) refl hears
     where
       go : (a : Closing) → r .answer ≡ a → HearsClosing box a box′ → Stands job unit box′ (r .desk) (ofClosing a ∷ past)
-      go (Closed job′ there) is told =
+      go (Closed job′ there folder) is told =
           let was = expires-after desk clock r expiring in
-          stands-withdrawn there clock (r .desk) (eventOf desk (expiresAt clock) ∷ s .seen) box′ job′
+          stands-withdrawn there clock (r .desk) (eventOf desk (expiresAt clock) ∷ s .seen) box′ job′ folder
           (subst (λ (d : Desk). Night d (eventOf desk (expiresAt clock) ∷ s .seen)) (sym (was .0)) (step desk (s .seen) (s .night) (expiresAt clock)))
-          (expired-right desk clock r job′ there expiring is .closes)
+          (expired-right desk clock r job′ there folder expiring is .closes)
           told
       go (NotClosed f) is told =
           subst (λ (b : FilterBox). Stands job unit b (r .desk) (nothing ∷ past)) (sym told)
@@ -440,8 +440,10 @@ module _ (job unit : ℕ) (box : FilterBox) (desk : Desk) (past : List Event) (s
                 follows = follows-asked box past (s .follows) pass tenths address (allowed .0) (allowed .1);
                 of-box = s .of-box;
                 ticket = λ b p v out. let t = edge-is out in
-                    subst (λ (x : ℕ). (w : ℕ) × (k : ℕ) × (ticketOn (a .0 .desk) x ≡ newTicket (record { job = job; unit = unit; sort = 5; register = edgeRegister p; wait = w }) k)) (t .0)
-                    (subst (λ (x : Pass). (w : ℕ) × (k : ℕ) × (ticketOn (a .0 .desk) address ≡ newTicket (record { job = job; unit = unit; sort = 5; register = edgeRegister x; wait = w }) k)) (t .1)
+                    subst (λ (x : ℕ). (w : ℕ) × (k : ℕ) × (ticketOn (a .0 .desk) x ≡ newTicket (record { job = job; unit = unit; sort = 5; register = edgeRegister p; wait = w; folder = 0 }) k))
+                    (t .0)
+                    (subst (λ (x : Pass). (w : ℕ) × (k : ℕ) × (ticketOn (a .0 .desk) address ≡ newTicket (record { job = job; unit = unit; sort = 5; register = edgeRegister x; wait = w; folder = 0 }) k))
+                    (t .1)
                     (wait, clock, stood .stands ∙ rw (s .of-box .0, s .of-box .1)));
               }
 

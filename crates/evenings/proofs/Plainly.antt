@@ -47,10 +47,10 @@ by-asking {job} {unit} {past} r next = (
 )
 
 by-closing : {job unit : ℕ} {past : List Event} (r : AfterClose) (box′ : FilterBox) → Evening job unit box′ (r .desk) (ofClosing (r .answer) ∷ past)
-    → ((theirs there : ℕ) → r .answer ≡ Closed theirs there → Evening job unit box′ (r .desk) (withdrawn there ∷ past))
+    → ((theirs there folder : ℕ) → r .answer ≡ Closed theirs there folder → Evening job unit box′ (r .desk) (withdrawn there ∷ past))
     × ((f : _) → r .answer ≡ NotClosed f → Evening job unit box′ (r .desk) (nothing ∷ past))
 by-closing {job} {unit} {past} r box′ next = (
-  λ theirs there e. subst (λ a. Evening job unit box′ (r .desk) (ofClosing a ∷ past)) e next,
+  λ theirs there folder e. subst (λ a. Evening job unit box′ (r .desk) (ofClosing a ∷ past)) e next,
   λ f e. subst (λ a. Evening job unit box′ (r .desk) (ofClosing a ∷ past)) e next,
 )
 
@@ -94,22 +94,22 @@ module _ {job unit : ℕ} {box : FilterBox} {desk : Desk} {past : List Event} (e
 
   -- any reply
   pub goes-on-reply : (frame room : List ℕ) (r : AfterReply) (room′ : List ℕ) (box′ : FilterBox) → Replies desk frame room r room′ → HearsReply box (r .answer) box′
-      → ((theirs address sort n : ℕ) → r .answer ≡ Booked theirs address sort n → Evening job unit box′ (r .desk) (booked address sort ∷ past))
+      → ((theirs address sort n folder : ℕ) → r .answer ≡ Booked theirs address sort n folder → Evening job unit box′ (r .desk) (booked address sort ∷ past))
       × ((f : _) → r .answer ≡ NotBooked f → Evening job unit box′ (r .desk) (nothing ∷ past))
   goes-on-reply frame room r room′ box′ c told =
       let next = replies evening frame room r room′ box′ c told in (
-        λ theirs address sort n e. subst (λ a. Evening job unit box′ (r .desk) (ofBooking a ∷ past)) e next,
+        λ theirs address sort n folder e. subst (λ a. Evening job unit box′ (r .desk) (ofBooking a ∷ past)) e next,
         λ f e. subst (λ a. Evening job unit box′ (r .desk) (ofBooking a ∷ past)) e next,
       )
 
   -- anybody's cancel, and any expiry
   pub goes-on-cancel : (job′ address clock : ℕ) (r : AfterClose) (box′ : FilterBox) → Cancels desk job′ address clock r → HearsClosing box (r .answer) box′
-      → ((theirs there : ℕ) → r .answer ≡ Closed theirs there → Evening job unit box′ (r .desk) (withdrawn there ∷ past))
+      → ((theirs there folder : ℕ) → r .answer ≡ Closed theirs there folder → Evening job unit box′ (r .desk) (withdrawn there ∷ past))
       × ((f : _) → r .answer ≡ NotClosed f → Evening job unit box′ (r .desk) (nothing ∷ past))
   goes-on-cancel job′ address clock r box′ c told = by-closing r box′ (cancels evening job′ address clock r box′ c told)
 
   pub goes-on-expire : (clock : ℕ) (r : AfterClose) (box′ : FilterBox) → Expires desk clock r → HearsClosing box (r .answer) box′
-      → ((theirs there : ℕ) → r .answer ≡ Closed theirs there → Evening job unit box′ (r .desk) (withdrawn there ∷ past))
+      → ((theirs there folder : ℕ) → r .answer ≡ Closed theirs there folder → Evening job unit box′ (r .desk) (withdrawn there ∷ past))
       × ((f : _) → r .answer ≡ NotClosed f → Evening job unit box′ (r .desk) (nothing ∷ past))
   goes-on-expire clock r box′ c told = by-closing r box′ (expires evening clock r box′ c told)
 
@@ -336,7 +336,7 @@ module _ {job unit : ℕ} {box : FilterBox} {desk : Desk} {past : List Event} (p
       × (ticketOn desk a
       ≡ record {
         live = true;
-        asked = record { job = job; unit = unit; sort = 5; register = edgeRegister q; wait = wait };
+        asked = record { job = job; unit = unit; sort = 5; register = edgeRegister q; wait = wait; folder = 0 };
         opened = clock;
         withdrawn = false;
         closed = 0;

@@ -57,11 +57,11 @@ ofOpening (OpenedAt address n) = opened address
 ofOpening (NotOpened f) = nothing
 
 abbrev pub ofBooking : Booking → Event
-ofBooking (Booked job address sort n) = booked address sort
+ofBooking (Booked job address sort n folder) = booked address sort
 ofBooking (NotBooked f) = nothing
 
 abbrev pub ofClosing : Closing → Event
-ofClosing (Closed job address) = withdrawn address
+ofClosing (Closed job address folder) = withdrawn address
 ofClosing (NotClosed f) = nothing
 
 -- the box, the desk and all that was answered, the latest first, after any calls as their contracts allow them
@@ -143,7 +143,7 @@ pub record Promised (job unit : ℕ) (box : FilterBox) (desk : Desk) (past : Lis
   pub is-out : (a : ℕ) (p : Pass) (v : ℕ) → (box .out ≡ Edge a p v) ↔ OutOn past a p v
   pub stands : (a : ℕ) (p : Pass) (v : ℕ) → OutOn past a p v
       → (wait : ℕ) × (clock : ℕ)
-      × (ticketOn desk a ≡ newTicket (record { job = job; unit = unit; sort = 5; register = edgeRegister p; wait = wait }) clock)
+      × (ticketOn desk a ≡ newTicket (record { job = job; unit = unit; sort = 5; register = edgeRegister p; wait = wait; folder = 0 }) clock)
   -- at most one request for an edge is out
   pub one-out : (a b : ℕ) (p q : Pass) (v w : ℕ) → OutOn past a p v → OutOn past b q w → (a ≡ b) × (p ≡ q) × (v ≡ w)
   -- the house rule, whenever both edges are known

@@ -1,7 +1,7 @@
 -- What each return of the calls gives, over plain numbers, requests and lanes.
 -- Assumes nothing.
 use mathlib.Core.Path.{_≡_, refl, sym, ap, ap₂, subst, _∙_}
-use mathlib.Core.Bool.{Bool, false}
+use mathlib.Core.Bool.{Bool, true, false}
 use mathlib.Core.List.{List}
 use mathlib.Core.Logic.{_≢_}
 use mathlib.Core.Option.{some, none}
@@ -16,14 +16,18 @@ use Rattle.request.specs.declared.Fault.{Fault as Asked}
 use Rattle.request.specs.declared.Request.{Request}
 use Rattle.desk.specs.declared.AfterOpen.{AfterOpen}
 use Rattle.desk.specs.declared.Desk.{Desk}
+use Rattle.desk.specs.declared.Fault.{Fault as DeskFault}
+use Rattle.desk.specs.declared.Opening.{Opening}
+use Rattle.desk.specs.declared.Opening.the-variants.{Refused as NotOpened}
 use Rattle.lanes.specs.Lanes.{laneAt, waitingAt, waitingWith, withLast, withLane, without, ownLane}
 use Rattle.lanes.specs.Join.{laneFor, joinRefusal, Joins, JoinsAt}
-use Rattle.lanes.specs.Grant.{placeAfter, nextDistance, nextPlace, grantRefusal, movesOn, servedFrom, fromDesk, OpensWaiting, Serves, Grants}
+use Rattle.lanes.specs.Grant.{placeAfter, nextDistance, nextPlace, grantRefusal, takesOut, movesOn, servedFrom, fromDesk, OpensWaiting, Serves, Grants}
 use Rattle.lanes.specs.Withdraw.{withdrawRefusal, Withdraws}
 use Rattle.lanes.specs.declared.AfterGrant.{AfterGrant}
 use Rattle.lanes.specs.declared.AfterJoin.{AfterJoin}
-use Rattle.lanes.specs.declared.Fault.the-variants.{Denied, ShortBuffer, NothingWaiting, NoSuchRequest}
+use Rattle.lanes.specs.declared.Fault.the-variants.{Denied, ShortBuffer, NothingWaiting, NoSuchRequest, AtDesk}
 use Rattle.lanes.specs.declared.Granting.{Granting}
+use Rattle.lanes.specs.declared.Granting.the-variants.{TakenOut, Refused}
 use Rattle.lanes.specs.declared.Joining.the-variants.{Joined}
 use Rattle.lanes.specs.declared.Lane.{Lane}
 use Rattle.lanes.specs.declared.Lanes.{Lanes}
@@ -87,6 +91,13 @@ served-at lanes desk place clock room room′ lane o moves lanes′ answer is op
     refl,
   ),
 )
+
+-- a refusal at the desk, by whether it takes the request out
+pub told-out : (job : ℕ) (a : Opening) (f : DeskFault) (out : Bool) → a ≡ NotOpened f → out ≡ takesOut f → out ≡ true → TakenOut job ≡ fromDesk job a
+told-out job a f out is by taken = rw (is, ← by, taken)
+
+pub told-on : (job : ℕ) (a : Opening) (f : DeskFault) (out : Bool) → a ≡ NotOpened f → out ≡ takesOut f → out ≡ false → Refused (AtDesk f) ≡ fromDesk job a
+told-on job a f out is by left = rw (is, ← by, left)
 
 -- ---- withdrawing
 

@@ -2,10 +2,13 @@
 -- over many calls in the crate `turns`.
 -- Assumes nothing.
 use mathlib.Core.Path.{_≡_, refl, sym, ap, ap₂, _∙_}
-use mathlib.Core.List.{List}
+use mathlib.Core.Bool.{Bool, true, false, true≢false}
+use mathlib.Core.List.{List, [], _∷_}
 use mathlib.Core.Logic.{⊎-elim}
 use mathlib.Core.Option.{Option, some, none}
 use Prim.Native.Nat.{ℕ, _+_, _-_, _<_}
+use native.Mathlib.Omega.{arith}
+use lib.Dec.{leb, ltb}
 use lib.ListN.{length}
 use Rattle.rows.proofs.Laws.{clash}
 use Rattle.rows.proofs.Settled.{settled}
@@ -13,21 +16,23 @@ use Rattle.rows.specs.Settled.{Settled}
 use Rattle.request.specs.declared.Fault.{Fault as Asked}
 use Rattle.request.specs.declared.Request.{Request}
 use Rattle.request.specs.Request.{faultNumber as askNumber}
-use Rattle.rows.specs.Rows.{Ranked}
-use Rattle.desk.proofs.Count.{opened-count, refused-count}
+use Rattle.rows.specs.Rows.{Ranked, test, firstOf}
+use Rattle.desk.proofs.Count.{opened-count, refused-count, no-more-than-14}
+use Rattle.desk.proofs.Folder.{only-held}
 use Rattle.desk.proofs.Laws.{opens-settled, open-refusal-keeps}
 use Rattle.desk.specs.Desk.{faultNumber as deskNumber}
 use Rattle.desk.specs.Open.{distanceOf, openTold}
 use Rattle.desk.specs.declared.AfterOpen.{AfterOpen}
 use Rattle.desk.specs.declared.Desk.{Desk}
 use Rattle.desk.specs.declared.Fault.{Fault as DeskFault}
-use Rattle.desk.specs.declared.Fault.the-variants.{NoneFree}
+use Rattle.desk.specs.declared.Fault.the-variants.{FolderHeld, NoneFree}
 use Rattle.desk.specs.declared.Opening.{Opening}
-use Rattle.desk.specs.declared.Opening.the-variants.{Opened, Refused as NotOpened}
+use Rattle.desk.specs.declared.Opening.the-variants.{Refused as NotOpened}
+use Rattle.lanes.proofs.Answers.{granted-told, taken-told, refused-told}
 use Rattle.lanes.proofs.Ranking.{grant-ranked}
 use Rattle.lanes.specs.Lanes.{Fresh, Numbers, freshLanes, laneAt, waitingAt, dataOf, ownLane}
 use Rattle.lanes.specs.Join.{joinRefusal, joinAnswer, joinLanes, laneFor, Joins, joinTold}
-use Rattle.lanes.specs.Grant.{IsShortBuffer, IsNothingWaiting, grantRows, grantRefusal, nextPlace, movesOn, servedFrom, fromDesk, GrantsBy, Grants, grantTold}
+use Rattle.lanes.specs.Grant.{IsShortBuffer, IsNothingWaiting, grantRows, grantRefusal, nextDistance, nextPlace, movesOn, servedFrom, fromDesk, GrantsBy, Grants, grantTold}
 use Rattle.lanes.specs.Withdraw.{withdrawRefusal, withdrawAnswer, withdrawLanes, Withdraws, withdrawTold}
 use Rattle.lanes.specs.declared.AfterGrant.{AfterGrant}
 use Rattle.lanes.specs.declared.AfterJoin.{AfterJoin}
@@ -35,7 +40,7 @@ use Rattle.lanes.specs.declared.AfterWithdraw.{AfterWithdraw}
 use Rattle.lanes.specs.declared.Fault.{Fault}
 use Rattle.lanes.specs.declared.Fault.the-variants.{Denied, NoLaneFree, LaneFull, ShortBuffer, NothingWaiting, NoSuchRequest, AtDesk}
 use Rattle.lanes.specs.declared.Granting.{Granting}
-use Rattle.lanes.specs.declared.Granting.the-variants.{Granted, Refused as NotGranted}
+use Rattle.lanes.specs.declared.Granting.the-variants.{Granted, TakenOut, Refused as NotGranted}
 use Rattle.lanes.specs.declared.Joining.{Joining}
 use Rattle.lanes.specs.declared.Joining.the-variants.{Joined, Refused as NotJoined}
 use Rattle.lanes.specs.declared.Lanes.{Lanes}
@@ -66,15 +71,10 @@ grant-refusal-keeps lanes desk clock room r room′ f g e = by (grantRefusal lan
   where
     by : (o : Option Fault) → GrantsBy o lanes desk clock room r room′ → (r .lanes ≡ lanes) × (r .desk ≡ desk) × (room′ ≡ room)
     by (some h) g = (g .0 .1, g .0 .2, g .1)
-    by none g = go (g .0 .answer) refl
-      where
-        go : (a : Opening) → g .0 .answer ≡ a → (r .lanes ≡ lanes) × (r .desk ≡ desk) × (room′ ≡ room)
-        go (Opened address n) p =
-            let both : NotGranted f ≡ Granted _ address n = sym e ∙ g .2 .0 ∙ ap (fromDesk _) p in
-            clash (cc)
-        go (NotOpened h) p =
-            let kept = open-refusal-keeps desk _ _ clock room (g .0) room′ (g .1) h p in
-            (g .2 .1 ∙ rw p, g .2 .2 ∙ kept .0, kept .1)
+    by none g =
+        let at-desk = refused-told (waitingAt (laneAt lanes (nextPlace lanes)) 0 .asked .job) (g .0 .answer) f (sym e ∙ g .2 .0) in
+        let kept = open-refusal-keeps desk _ _ clock room (g .0) room′ (g .1) (at-desk .0) (at-desk .1) in
+        (g .2 .1 ∙ rw (at-desk .1, at-desk .3), g .2 .2 ∙ kept .0, kept .1)
 
 -- ---- 02, #108: "Opening reports how many addresses it considered", and "Refusals carry it too: 95 with 15"; 0 where the desk was not asked
 
@@ -84,11 +84,21 @@ module _ (lanes : Lanes) (desk : Desk) (clock : ℕ) (room : List ℕ) (r : Afte
     where
       by : (x : Option Fault) → GrantsBy x lanes desk clock room r room′ → r .count ≡ distanceOf desk clock + 1
       by (some f) g = let both : Granted job address n ≡ NotGranted f = sym e ∙ g .0 .0 in clash (cc)
-      by none g = go (g .0 .answer) refl
-        where
-          go : (a : Opening) → g .0 .answer ≡ a → r .count ≡ distanceOf desk clock + 1
-          go (Opened there m) p = g .2 .3 ∙ opened-count desk _ _ clock room (g .0) room′ (g .1) there m p
-          go (NotOpened f) p = let both : Granted job address n ≡ NotGranted (AtDesk f) = sym e ∙ g .2 .0 ∙ ap (fromDesk _) p in clash (cc)
+      by none g =
+          let told = granted-told (waitingAt (laneAt lanes (nextPlace lanes)) 0 .asked .job) job address n (g .0 .answer) (sym e ∙ g .2 .0) in
+          g .2 .3 ∙ opened-count desk _ _ clock room (g .0) room′ (g .1) address n (told .0)
+
+  -- 02, #110: "A waiting request whose folder another job holds at its grant is taken out and reported with 75 and its job", "#108's count is 0
+  -- with it": the desk and the buffer stay
+  pub taken-out-keeps : (job : ℕ) → r .answer ≡ TakenOut job → (r .count ≡ 0) × (r .desk ≡ desk) × (room′ ≡ room)
+  taken-out-keeps job e = by (grantRefusal lanes (length room)) g
+    where
+      by : (x : Option Fault) → GrantsBy x lanes desk clock room r room′ → (r .count ≡ 0) × (r .desk ≡ desk) × (room′ ≡ room)
+      by (some f) g = let both : TakenOut job ≡ NotGranted f = sym e ∙ g .0 .0 in clash (cc)
+      by none g =
+          let told = taken-told (waitingAt (laneAt lanes (nextPlace lanes)) 0 .asked .job) job (g .0 .answer) (sym e ∙ g .2 .0) in
+          let kept = open-refusal-keeps desk _ _ clock room (g .0) room′ (g .1) FolderHeld (told .0) in
+          (g .2 .3 ∙ refused-count desk _ _ clock room (g .0) room′ (g .1) 75 (ap openTold (told .0)) .3 refl, g .2 .2 ∙ kept .0, kept .1)
 
   pub none-free-count : r .answer ≡ NotGranted (AtDesk NoneFree) → r .count ≡ 95
   unfolding grantRows
@@ -98,14 +108,13 @@ module _ (lanes : Lanes) (desk : Desk) (clock : ℕ) (room : List ℕ) (r : Afte
       by (some f) first g =
           let is : NotGranted (AtDesk NoneFree) ≡ NotGranted f = sym e ∙ g .0 .0 in
           ⊎-elim (λ short. let z = short .1 in clash (cc)) (λ later. ⊎-elim (λ nothing. let z = nothing .1 in clash (cc)) (λ past. absurd (past .1)) (later .1)) first
-      by none first g = go (g .0 .answer) refl
+      by none first g =
+          let told = refused-told (waitingAt (laneAt lanes (nextPlace lanes)) 0 .asked .job) (g .0 .answer) (AtDesk NoneFree) (sym e ∙ g .2 .0) in
+          let same : NoneFree ≡ told .0 = at-same NoneFree (told .0) (told .2) in
+          g .2 .3 ∙ refused-count desk _ _ clock room (g .0) room′ (g .1) 15 (ap openTold (told .1 ∙ ap NotOpened (sym same))) .1 refl
         where
-          go : (a : Opening) → g .0 .answer ≡ a → r .count ≡ 95
-          go (Opened there m) p = let both : NotGranted (AtDesk NoneFree) ≡ Granted _ there m = sym e ∙ g .2 .0 ∙ ap (fromDesk _) p in clash (cc)
-          go (NotOpened f) p =
-              let both : NotGranted (AtDesk NoneFree) ≡ NotGranted (AtDesk f) = sym e ∙ g .2 .0 ∙ ap (fromDesk _) p in
-              let same : NoneFree ≡ f = cc in
-              g .2 .3 ∙ refused-count desk _ _ clock room (g .0) room′ (g .1) 15 (ap openTold (p ∙ ap NotOpened (sym same))) .1 refl
+          at-same : (a b : DeskFault) → AtDesk a ≡ AtDesk b → a ≡ b
+          at-same a b p = cc
 
   pub not-asked-count : (length room < 494 → r .count ≡ 0) × (((place : ℕ) → place < 16 → laneAt lanes place .size ≡ 0) → r .count ≡ 0)
   unfolding grantRows IsShortBuffer IsNothingWaiting
@@ -131,6 +140,53 @@ numbers-are r = (λ p. p, λ p. p, λ p. p, λ p. p, λ p. p, λ f p. p, λ f p.
 pub told-number : (f : Fault) (k : ℕ) → Numbers f k
     → (joinTold (NotJoined f) ≡ some k) × (grantTold (NotGranted f) ≡ some k) × (withdrawTold (NotDone f) ≡ some k)
 told-number f k p = (ap some (sym p), ap some (sym p), ap some (sym p))
+
+-- one that is taken out is told as the desk's refusal, and so is no other
+pub taken-number : (job : ℕ) → grantTold (TakenOut job) ≡ some (deskNumber FolderHeld)
+taken-number job = refl
+
+own-refusal : (lanes : Lanes) (room : ℕ) (f : DeskFault) → grantRefusal lanes room ≡ some (AtDesk f) → _≡_ {A = ℕ} 0 1
+unfolding grantRefusal
+own-refusal lanes room f e = go (ltb room 494) (leb 16 (nextDistance lanes)) e
+  where
+    go : (a b : Bool) → firstOf (test a ShortBuffer ∷ test b NothingWaiting ∷ []) ≡ some (AtDesk f) → _≡_ {A = ℕ} 0 1
+    go true b e = cc
+    go false true e = cc
+    go false false e = cc
+
+pub held-taken-out : (lanes : Lanes) (desk : Desk) (clock : ℕ) (room : List ℕ) (r : AfterGrant) (room′ : List ℕ) → Grants lanes desk clock room r room′
+    → grantTold (r .answer) ≡ some 75 → (job : ℕ) × (r .answer ≡ TakenOut job)
+held-taken-out lanes desk clock room r room′ g e = go (r .answer) refl e
+  where
+    number-of : {m n : ℕ} → _≡_ {A = Option ℕ} (some m) (some n) → m ≡ n
+    number-of p = cc
+
+    not-passed-on : (f : DeskFault) → deskNumber f ≡ 75 → r .answer ≡ NotGranted (AtDesk f) → _≡_ {A = ℕ} 0 1
+    not-passed-on f n is = by (grantRefusal lanes (length room)) refl g
+      where
+        by : (x : Option Fault) → grantRefusal lanes (length room) ≡ x → GrantsBy x lanes desk clock room r room′ → _≡_ {A = ℕ} 0 1
+        by (some h) x g =
+            let both : NotGranted (AtDesk f) ≡ NotGranted h = sym is ∙ g .0 .0 in
+            let same : some h ≡ some (AtDesk f) = cc in
+            own-refusal lanes (length room) f (x ∙ same)
+        by none x g =
+            let told = refused-told (waitingAt (laneAt lanes (nextPlace lanes)) 0 .asked .job) (g .0 .answer) (AtDesk f) (sym is ∙ g .2 .0) in
+            let same : f ≡ told .0 = at-same f (told .0) (told .2) in
+            absurd (true≢false (rw (← same, only-held f n) at (told .3)))
+          where
+            at-same : (a b : DeskFault) → AtDesk a ≡ AtDesk b → a ≡ b
+            at-same a b p = cc
+
+    go : (a : Granting) → r .answer ≡ a → grantTold a ≡ some 75 → (job : ℕ) × (r .answer ≡ TakenOut job)
+    go (TakenOut job) is e = (job, is)
+    go (Granted job address n) is e = clash (cc)
+    go (NotGranted (Denied f)) is e = absurd (omega (arith, number-of e, no-more-than-14 f))
+    go (NotGranted NoLaneFree) is e = absurd (omega (arith, number-of e))
+    go (NotGranted LaneFull) is e = absurd (omega (arith, number-of e))
+    go (NotGranted ShortBuffer) is e = absurd (omega (arith, number-of e))
+    go (NotGranted NothingWaiting) is e = absurd (omega (arith, number-of e))
+    go (NotGranted NoSuchRequest) is e = absurd (omega (arith, number-of e))
+    go (NotGranted (AtDesk f)) is e = clash (not-passed-on f (number-of e) is)
 
 pub fresh-is : (lanes : Lanes) → Fresh lanes → lanes ≡ freshLanes
 fresh-is lanes p = p

@@ -2,7 +2,7 @@
 -- request and answers its job too". 02, #109.
 -- Assumes nothing.
 use mathlib.Core.Path.{_≡_}
-use mathlib.Core.Bool.{Bool, true, false, not}
+use mathlib.Core.Bool.{Bool, true, false, cond, not}
 use mathlib.Core.List.{List, [], _∷_}
 use mathlib.Core.Option.{Option, some, none}
 use Prim.Native.Nat.{ℕ, _+_, _%_, _<_}
@@ -14,6 +14,8 @@ use Rattle.request.specs.declared.Request.{Request}
 use Rattle.desk.specs.Open.{Opens}
 use Rattle.desk.specs.declared.AfterOpen.{AfterOpen}
 use Rattle.desk.specs.declared.Desk.{Desk}
+use Rattle.desk.specs.declared.Fault.{Fault as DeskFault}
+use Rattle.desk.specs.declared.Fault.the-variants as desk
 use Rattle.desk.specs.declared.Opening.{Opening}
 use Rattle.desk.specs.declared.Opening.the-variants.{Opened, Refused as NotOpened}
 use Rattle.lanes.specs.Lanes.{Empty, isEmpty, laneAt, waitingAt, dataOf, without, faultNumber}
@@ -21,7 +23,7 @@ use Rattle.lanes.specs.declared.AfterGrant.{AfterGrant}
 use Rattle.lanes.specs.declared.Fault.{Fault}
 use Rattle.lanes.specs.declared.Fault.the-variants.{ShortBuffer, NothingWaiting, AtDesk}
 use Rattle.lanes.specs.declared.Granting.{Granting}
-use Rattle.lanes.specs.declared.Granting.the-variants.{Granted, Refused}
+use Rattle.lanes.specs.declared.Granting.the-variants.{Granted, TakenOut, Refused}
 use Rattle.lanes.specs.declared.Lane.{Lane}
 use Rattle.lanes.specs.declared.Lanes.{Lanes}
 use Rattle.lanes.specs.declared.Waiting.{Waiting}
@@ -58,22 +60,36 @@ grantRefusal lanes room = firstOf (grantTests lanes room)
 
 -- ---- the desk's answer, and what the lanes make of it
 
--- the turn was used: a ticket was opened. "A grant answered 15 changes nothing and doesn't count."
+-- 02, #110: "A waiting request whose folder another job holds at its grant is taken out"
+abbrev pub takesOut : DeskFault → Bool
+takesOut desk.FolderHeld = true
+takesOut (desk.Denied f) = false
+takesOut desk.NoneFree = false
+takesOut desk.NoRoom = false
+takesOut (desk.Unread f) = false
+takesOut (desk.Misfit f) = false
+takesOut desk.NotTheirs = false
+takesOut desk.NothingDue = false
+
+-- the turn was used: a ticket was opened, or the request is taken out: "that grant, though refused, counts for #109 as one that opened
+-- something and moves on the lane last served". "A grant answered 15 changes nothing and doesn't count."
 abbrev pub movesOn : Opening → Bool
 movesOn (Opened address n) = true
-movesOn (NotOpened f) = false
+movesOn (NotOpened f) = takesOut f
 
 -- its oldest request is out of the lane, and it is the lane last served
 abbrev pub servedFrom : Lanes → ℕ → Lane → Bool → Lanes
 servedFrom lanes place lane true = record { last = place; lanes = set (lanes .lanes) place (without lane 0) }
 servedFrom lanes place lane false = lanes
 
+-- it "answers its job too"; one that is taken out is "reported with 75 and its job"
 abbrev pub fromDesk : ℕ → Opening → Granting
 fromDesk job (Opened address n) = Granted job address n
-fromDesk job (NotOpened f) = Refused (AtDesk f)
+fromDesk job (NotOpened f) = cond (takesOut f) (TakenOut job) (Refused (AtDesk f))
 
 abbrev pub grantTold : Granting → Option ℕ
 grantTold (Refused f) = some (faultNumber f)
+grantTold (TakenOut job) = some 75
 grantTold (Granted job address n) = none
 
 -- ---- the contracts

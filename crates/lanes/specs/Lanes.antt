@@ -20,7 +20,7 @@ use Rattle.lanes.specs.declared.Lanes.{Lanes}
 -- ---- what waits
 
 abbrev pub noRequest : Request
-noRequest = record { job = 0; unit = 0; sort = 0; register = 0; wait = 0 }
+noRequest = record { job = 0; unit = 0; sort = 0; register = 0; wait = 0; folder = 0 }
 
 -- a place where nothing waits
 abbrev pub nobody : Waiting

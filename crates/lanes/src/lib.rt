@@ -8,7 +8,7 @@ pub use desk::Request;
 ghost use Rattle.lanes.specs.Lanes.{Fresh, Numbers, laneAt, isTheirs, isEmpty, waitingWith, withLast, withLane, nextAt, without};
 ghost use Rattle.lanes.specs.Lanes.{ownLane, emptyLane};
 ghost use Rattle.lanes.specs.Join.{Joins, JoinsAt, NotJoined, laneFor};
-ghost use Rattle.lanes.specs.Grant.{Grants, Serves, NotGranted, OpensWith, OpensWaiting, nextDistance, movesOn, servedFrom, fromDesk};
+ghost use Rattle.lanes.specs.Grant.{Grants, Serves, NotGranted, OpensWith, OpensWaiting, nextDistance, takesOut, movesOn, servedFrom, fromDesk};
 ghost use Rattle.lanes.specs.Withdraw.{Withdraws, NotWithdrawn};
 ghost use mathlib.Core.Path.{_≡_};
 ghost use mathlib.Core.Bool.{not};
@@ -60,6 +60,8 @@ pub enum Granting {
     // the job whose request was opened, the host address that it was given, and the length of its
     // telegram
     Granted(u32, u8, usize),
+    // the job whose request was taken out, because another job holds its folder: told as the desk's 75
+    TakenOut(u32),
     Refused(Fault),
 }
 
@@ -97,6 +99,7 @@ const NOBODY: Waiting = Waiting {
         sort: 0,
         register: 0,
         wait: 0,
+        folder: 0,
     },
     size: 0,
     bytes: [0; 240],
@@ -182,7 +185,8 @@ fn lane_for(lanes: Lanes, job: u32) -> u8
 }
 
 // Opens the oldest request of the first lane with something waiting after the lane last served, going
-// round, and writes its telegram into the room's first bytes.
+// round, and writes its telegram into the room's first bytes. Where another job holds its folder the
+// request is taken out instead; that was the lane's turn too, and desk and room stay.
 pub fn grant(lanes: Lanes, desk: Desk, clock: u32, room: &mut [u8]) -> AfterGrant
     ensures { λ r. ⌜ Grants lanes desk clock (now (room .entry)) r (now (room .exit)) ⌝ }
 {
@@ -257,7 +261,23 @@ fn moves_on(answer: Opening) -> bool
 {
     match answer {
         Opening::Opened(_, _) => true,
-        Opening::Refused(_) => false,
+        Opening::Refused(fault) => takes_out(fault),
+    }
+}
+
+// Whether a request that the desk refused so leaves its lane.
+fn takes_out(fault: desk::Fault) -> bool
+    ensures { λ r. ⌜ r ≡ takesOut fault ⌝ }
+{
+    match fault {
+        desk::Fault::FolderHeld => true,
+        desk::Fault::Denied(_) => false,
+        desk::Fault::NoneFree => false,
+        desk::Fault::NoRoom => false,
+        desk::Fault::Unread(_) => false,
+        desk::Fault::Misfit(_) => false,
+        desk::Fault::NotTheirs => false,
+        desk::Fault::NothingDue => false,
     }
 }
 
@@ -280,7 +300,12 @@ fn from_desk(job: u32, answer: Opening) -> Granting
 {
     match answer {
         Opening::Opened(address, n) => Granting::Granted(job, address, n),
-        Opening::Refused(fault) => Granting::Refused(Fault::AtDesk(fault)),
+        Opening::Refused(fault) => {
+            if takes_out(fault) {
+                return Granting::TakenOut(job);
+            }
+            Granting::Refused(Fault::AtDesk(fault))
+        }
     }
 }
 

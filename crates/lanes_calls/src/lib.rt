@@ -46,7 +46,7 @@ pub fn answer(hall: Hall, w: Words, line: &[u8], out: &mut [u8]) -> Told {
     bad(hall, out)
 }
 
-// lane.join JOB MODULE TYPE REG DATA WAIT FOLDER; the folder is passed over.
+// lane.join JOB MODULE TYPE REG DATA WAIT FOLDER
 fn join(hall: Hall, w: Words, line: &[u8], out: &mut [u8]) -> Told {
     let mut data = [0u8; words::MOST];
     let ask = desk_calls::take_ask(w, line);
@@ -57,6 +57,7 @@ fn join(hall: Hall, w: Words, line: &[u8], out: &mut [u8]) -> Told {
         let n = count(p.value, &data);
         let mut asked = ask.asked;
         asked.wait = word32(a.value);
+        asked.folder = word32(b.value);
         return join_now(hall, asked, &data[..n], out);
     }
     bad(hall, out)
@@ -109,10 +110,20 @@ fn granted(after: AfterGrant, room: &[u8], out: &mut [u8]) -> Told {
     }
 }
 
-// The desk's refusals come with its count, the lanes' own without one.
+// The desk's refusals come with its count, the lanes' own without one. A request that was taken out is
+// told as the desk's refusal, with its job.
 fn granting(answer: Granting, considered: u8, out: &mut [u8]) -> usize {
     match answer {
         Granting::Refused(fault) => refused(fault, considered, out),
+        Granting::TakenOut(job) => answers::form(
+            out,
+            b"no # job=# count=#",
+            &[
+                desk::number(desk::Fault::FolderHeld) as u64,
+                job as u64,
+                considered as u64,
+            ],
+        ),
         Granting::Granted(job, address, n) => answers::form(
             out,
             b"ok job=# address=# n=# count=#",
@@ -216,7 +227,8 @@ fn waiting(w: Waiting, out: &mut [u8], at: usize) -> usize {
     let b = desk_calls::what_fields(asked, out, a);
     let c = answers::text(out, b, b":");
     let d = data(&bytes, n, out, c);
-    answers::field(out, d, b":", asked.wait as u64)
+    let e = answers::field(out, d, b":", asked.wait as u64);
+    answers::field(out, e, b":", asked.folder as u64)
 }
 
 // The first n of the bytes.

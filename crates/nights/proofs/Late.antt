@@ -42,34 +42,34 @@ use Rattle.nights.specs.Round.{GivesAt, Among, GivenIn}
 
 -- ---- what a cancel or an expiry leaves on the address, until it is given out again
 
-closing-left : (o : Option Fault) (desk : Desk) (address at : ℕ) → (o ≡ none → OpenOn desk address) → (job place clock : ℕ)
-    → ofClosing (closeAnswer o (ticketOn desk address) address) at ≡ withdrawn job (161 + place) clock
+closing-left : (o : Option Fault) (desk : Desk) (address at : ℕ) → (o ≡ none → OpenOn desk address) → (job place folder clock : ℕ)
+    → ofClosing (closeAnswer o (ticketOn desk address) address) at ≡ withdrawn job (161 + place) folder clock
     → ticketAt (closeDesk o desk address at) place ≡ withdrawnAt clock
-closing-left none desk address at live job place clock e =
+closing-left none desk address at live job place folder clock e =
     let there : address ≡ 161 + place = cc in
     let then : at ≡ clock = cc in
     sym (on-host (withdrawnOn desk address at) place) ∙ rw (← there, ← then) (withdraws-alone desk address at (live refl) .closed)
-closing-left (some f) desk address at live job place clock e = clash (cc)
+closing-left (some f) desk address at live job place folder clock e = clash (cc)
 
-opening-other : (o : Option Fault) (address n : ℕ) (asked : Request) (clock : ℕ) (job x at : ℕ)
-    → ofOpening (openAnswer o address n) asked clock ≡ withdrawn job x at → ⊥
-opening-other none address n asked clock job x at e = clash (cc)
-opening-other (some f) address n asked clock job x at e = clash (cc)
+opening-other : (o : Option Fault) (address n : ℕ) (asked : Request) (clock : ℕ) (job x folder at : ℕ)
+    → ofOpening (openAnswer o address n) asked clock ≡ withdrawn job x folder at → ⊥
+opening-other none address n asked clock job x folder at e = clash (cc)
+opening-other (some f) address n asked clock job x folder at e = clash (cc)
 
-booking-other : (o : Option Fault) (there : Ticket) (t : Fields) (frame : List ℕ) (job x at : ℕ)
-    → ofBooking (bookAnswer o there t) frame ≡ withdrawn job x at → ⊥
-booking-other none there t frame job x at e = clash (cc)
-booking-other (some f) there t frame job x at e = clash (cc)
+booking-other : (o : Option Fault) (there : Ticket) (t : Fields) (frame : List ℕ) (job x folder at : ℕ)
+    → ofBooking (bookAnswer o there t) frame ≡ withdrawn job x folder at → ⊥
+booking-other none there t frame job x folder at e = clash (cc)
+booking-other (some f) there t frame job x folder at e = clash (cc)
 
-withdrawn-left : (desk : Desk) (call : Call) (job place clock : ℕ) → eventOf desk call ≡ withdrawn job (161 + place) clock
+withdrawn-left : (desk : Desk) (call : Call) (job place folder clock : ℕ) → eventOf desk call ≡ withdrawn job (161 + place) folder clock
     → ticketAt (after desk call) place ≡ withdrawnAt clock
 unfolding after eventOf
-withdrawn-left desk (asks asked bytes at room) job place clock e = absurd (opening-other (openRefusal desk asked bytes at (length room)) _ _ asked at _ _ _ e)
-withdrawn-left desk (brings frame room) job place clock e = absurd (booking-other (replyRefusal desk frame (length room)) _ (fieldsIn frame) frame _ _ _ e)
-withdrawn-left desk (cancels by address at) job place clock e =
-    closing-left (cancelRefusal desk by address) desk address at (λ p. fit-to-cancel desk by address p .0) job place clock e
-withdrawn-left desk (expires at) job place clock e =
-    closing-left (expireRefusal desk at) desk (161 + duePlace desk at) at (λ p. fit-to-expire desk at p .1 .0) job place clock e
+withdrawn-left desk (asks asked bytes at room) job place folder clock e = absurd (opening-other (openRefusal desk asked bytes at (length room)) _ _ asked at _ _ _ _ e)
+withdrawn-left desk (brings frame room) job place folder clock e = absurd (booking-other (replyRefusal desk frame (length room)) _ (fieldsIn frame) frame _ _ _ _ e)
+withdrawn-left desk (cancels by address at) job place folder clock e =
+    closing-left (cancelRefusal desk by address) desk address at (λ p. fit-to-cancel desk by address p .0) job place folder clock e
+withdrawn-left desk (expires at) job place folder clock e =
+    closing-left (expireRefusal desk at) desk (161 + duePlace desk at) at (λ p. fit-to-expire desk at p .1 .0) job place folder clock e
 
 still-withdrawn : (calls : List Call) (desk : Desk) (place clock : ℕ) → ticketAt desk place ≡ withdrawnAt clock → (GivenIn desk calls place → ⊥)
     → ticketAt (afterAll desk calls) place ≡ withdrawnAt clock
@@ -80,36 +80,37 @@ still-withdrawn (call ∷ calls) desk place clock e none-gives =
     (λ same. still-withdrawn calls (after desk call) place clock (same ∙ e) (λ later. none-gives (inr later)))
     (given-or-stays desk call place (ap (λ (t : Ticket). t .live) e))
 
-booking-there : (o : Option Fault) (there : Ticket) (t : Fields) (frame : List ℕ) (job x source sort register : ℕ)
-    → ofBooking (bookAnswer o there t) frame ≡ booked job x source sort register → (o ≡ none) × (t .destination ≡ x)
-booking-there none there t frame job x source sort register e = (refl, cc)
-booking-there (some f) there t frame job x source sort register e = clash (cc)
+booking-there : (o : Option Fault) (there : Ticket) (t : Fields) (frame : List ℕ) (job x source sort register folder : ℕ)
+    → ofBooking (bookAnswer o there t) frame ≡ booked job x source sort register folder → (o ≡ none) × (t .destination ≡ x)
+booking-there none there t frame job x source sort register folder e = (refl, cc)
+booking-there (some f) there t frame job x source sort register folder e = clash (cc)
 
-opening-not-booked : (o : Option Fault) (address n : ℕ) (asked : Request) (clock : ℕ) (job x source sort register : ℕ)
-    → ofOpening (openAnswer o address n) asked clock ≡ booked job x source sort register → ⊥
-opening-not-booked none address n asked clock job x source sort register e = clash (cc)
-opening-not-booked (some f) address n asked clock job x source sort register e = clash (cc)
+opening-not-booked : (o : Option Fault) (address n : ℕ) (asked : Request) (clock : ℕ) (job x source sort register folder : ℕ)
+    → ofOpening (openAnswer o address n) asked clock ≡ booked job x source sort register folder → ⊥
+opening-not-booked none address n asked clock job x source sort register folder e = clash (cc)
+opening-not-booked (some f) address n asked clock job x source sort register folder e = clash (cc)
 
-closing-not-booked : (o : Option Fault) (there : Ticket) (address at : ℕ) (job x source sort register : ℕ)
-    → ofClosing (closeAnswer o there address) at ≡ booked job x source sort register → ⊥
-closing-not-booked none there address at job x source sort register e = clash (cc)
-closing-not-booked (some f) there address at job x source sort register e = clash (cc)
+closing-not-booked : (o : Option Fault) (there : Ticket) (address at : ℕ) (job x source sort register folder : ℕ)
+    → ofClosing (closeAnswer o there address) at ≡ booked job x source sort register folder → ⊥
+closing-not-booked none there address at job x source sort register folder e = clash (cc)
+closing-not-booked (some f) there address at job x source sort register folder e = clash (cc)
 
 -- ---- after a cancel or an expiry at a clock, on any desk, and any calls since that did not give the address again
 
 -- one such cancel
-a-cancel : eventOf (withTicket freshDesk 0 (newTicket (record { job = 7; unit = 15; sort = 4; register = 102; wait = 1000 }) 0)) (cancels 7 161 40)
-    ≡ withdrawn 7 (161 + 0) 40
+a-cancel : eventOf (withTicket freshDesk 0 (newTicket (record { job = 7; unit = 15; sort = 4; register = 102; wait = 1000; folder = 3 }) 0)) (cancels 7 161 40)
+    ≡ withdrawn 7 (161 + 0) 3 40
 unfolding eventOf cancelRefusal
 a-cancel = refl
 
-module _ (desk : Desk) (closing : Call) (job place closed : ℕ) (gave-up : eventOf desk closing ≡ withdrawn job (161 + place) closed)
+module _ (desk : Desk) (closing : Call) (job place folder closed : ℕ)
+    (gave-up : eventOf desk closing ≡ withdrawn job (161 + place) folder closed)
     (calls : List Call) (none-gives : GivenIn (after desk closing) calls place → ⊥) where
   abbrev desk-then : Desk
   desk-then = afterAll (after desk closing) calls
 
   left-then : ticketAt desk-then place ≡ withdrawnAt closed
-  left-then = still-withdrawn calls (after desk closing) place closed (withdrawn-left desk closing job place closed gave-up) none-gives
+  left-then = still-withdrawn calls (after desk closing) place closed (withdrawn-left desk closing job place folder closed gave-up) none-gives
 
   -- the address keeps that it was given up, and when
   pub kept-then : ticketOn desk-then (161 + place) ≡ withdrawnAt closed
@@ -140,18 +141,19 @@ module _ (desk : Desk) (closing : Call) (job place closed : ℕ) (gave-up : even
       go none e = (ap bookTold (replies .0) ∙ rw (e, on), replies .1 ∙ rw (e, on), replies .2 ∙ rw (e, on))
 
   -- so nothing is booked there
-  pub nothing-booked : (next : Call) (theirs source sort register : ℕ) → eventOf desk-then next ≡ booked theirs (161 + place) source sort register → ⊥
+  pub nothing-booked : (next : Call) (theirs source sort register filed : ℕ)
+      → eventOf desk-then next ≡ booked theirs (161 + place) source sort register filed → ⊥
   unfolding eventOf
-  nothing-booked (asks asked bytes clock room) theirs source sort register e =
-      opening-not-booked (openRefusal desk-then asked bytes clock (length room)) _ _ asked clock _ _ _ _ _ e
-  nothing-booked (brings frame room) theirs source sort register e =
-      let b = booking-there (replyRefusal desk-then frame (length room)) _ (fieldsIn frame) frame _ _ _ _ _ e in
+  nothing-booked (asks asked bytes clock room) theirs source sort register filed e =
+      opening-not-booked (openRefusal desk-then asked bytes clock (length room)) _ _ asked clock _ _ _ _ _ _ e
+  nothing-booked (brings frame room) theirs source sort register filed e =
+      let b = booking-there (replyRefusal desk-then frame (length room)) _ (fieldsIn frame) frame _ _ _ _ _ _ e in
       let live : OpenOn desk-then (fieldsIn frame .destination) = fit-to-book desk-then frame (length room) (b .0) .1 in
       true≢false (sym (rw (b .1) at live) ∙ ap (λ (t : Ticket). t .live) kept-then)
-  nothing-booked (cancels by address clock) theirs source sort register e =
-      closing-not-booked (cancelRefusal desk-then by address) _ address clock _ _ _ _ _ e
-  nothing-booked (expires clock) theirs source sort register e =
-      closing-not-booked (expireRefusal desk-then clock) _ (161 + duePlace desk-then clock) clock _ _ _ _ _ e
+  nothing-booked (cancels by address clock) theirs source sort register filed e =
+      closing-not-booked (cancelRefusal desk-then by address) _ address clock _ _ _ _ _ _ e
+  nothing-booked (expires clock) theirs source sort register filed e =
+      closing-not-booked (expireRefusal desk-then clock) _ (161 + duePlace desk-then clock) clock _ _ _ _ _ _ e
 
 -- ---- "61 in place of 17, when the reply's destination has no ticket and its last ticket was cancelled or expired": after any calls from a
 -- fresh desk, of any telegram that can be read

@@ -10,9 +10,12 @@ use native.Mathlib.Omega.{arith}
 use borrow.Author.Tests.{eqb-true, eqb-false, not-false}
 use lib.Dec.{eqb, leb}
 use lib.ListN.{length, getD, set, replicate, length-set, length-replicate}
-use Rattle.desk.proofs.Laws.{open-within, answers-alone, withdraws-alone, given-at, fit-to-open, fit-to-book, fit-to-cancel, fit-to-expire}
+use Rattle.desk.proofs.Laws.{open-within, answers-alone, withdraws-alone, given-at, empty-place}
+use Rattle.desk.proofs.Folder.{folder-apart}
+use Rattle.desk.proofs.Laws.{fit-to-open, fit-to-book, fit-to-cancel, fit-to-expire}
 use Rattle.desk.specs.Close.{cancelRefusal, duePlace, expireRefusal, closeAnswer, closeDesk, withdrawnOn, Cancels, Expires}
 use Rattle.desk.specs.Desk.{freshDesk, ticketOn, OpenOn, putAt}
+use Rattle.desk.specs.Folder.{IsFolderHeld}
 use Rattle.desk.specs.Open.{givenPlace, requestAt, openRefusal, openAnswer, withTicket, openDesk, Opens}
 use Rattle.desk.specs.Outcome.{Given, ClosedAlone}
 use Rattle.desk.specs.Reply.{replyRefusal, bookAnswer, bookDesk, answeredOn, Replies}
@@ -37,7 +40,7 @@ use Rattle.ticket.specs.Rest.{Free}
 use Rattle.ticket.specs.Ticket.{Open, noTicket, newTicket, withdrawnAt}
 use Rattle.ticket.specs.declared.Ticket.{Ticket}
 use Rattle.nights.specs.Night.{Call, Event, after, ofOpening, ofBooking, ofClosing, eventOf, afterAll, answeredAll}
-use Rattle.nights.specs.Night.{Last, lastOn, MayBeGiven, Fitting, Theirs, Right, kept, Kept, SoundRequest, SoundDesk, Night}
+use Rattle.nights.specs.Night.{Last, lastOn, MayBeGiven, FolderFree, Fitting, Theirs, Right, kept, Kept, SoundRequest, SoundDesk, FoldersApart, Night}
 use Rattle.nights.specs.Night.{asks, brings, cancels, expires, opened, booked, withdrawn, nothing, never, stands, answered, givenUp}
 
 -- each ticket after a store is sound, if those before it are and the new one is, or is none
@@ -74,7 +77,7 @@ allowed-sound asked bytes e =
 -- ---- one opening or closing more
 
 -- what is kept of the last ticket tells what became of it
-open-last : (l : Last) → Open (kept l) → (asked : Request) × (clock : ℕ) × (l ≡ stands asked clock)
+pub open-last : (l : Last) → Open (kept l) → (asked : Request) × (clock : ℕ) × (l ≡ stands asked clock)
 open-last never live = absurd (true≢false (sym live))
 open-last (stands asked clock) live = (asked, clock, refl)
 open-last answered live = absurd (true≢false (sym live))
@@ -88,13 +91,49 @@ free-last (givenUp closing) clock free = rested clock closing free
 
 quiet : {desk : Desk} {past : List Event} → Night desk past → Night desk (nothing ∷ past)
 unfolding Kept Right lastOn
-quiet n = record { sound = n .sound; kept = n .kept; right = n .right }
+quiet n = record { sound = n .sound; apart = n .apart; kept = n .kept; right = n .right }
+
+-- ---- folders: one opening or closing more
+
+-- what is opened keeps off every other job's folder
+apart-given : {desk : Desk} {asked : Request} {clock address : ℕ} {desk′ : Desk} → Given desk asked clock address desk′ → FoldersApart desk
+    → ((other : ℕ) → OpenOn desk other → ticketOn desk other .asked .job ≢ asked .job → asked .folder ≢ 0 → ticketOn desk other .asked .folder ≢ asked .folder)
+    → FoldersApart desk′
+apart-given {desk} {asked} {clock} {address} {desk′} g apart new a b live-a live-b jobs used same = by (eqb a address) refl (eqb b address) refl
+  where
+    here : (x : ℕ) → eqb x address ≡ true → ticketOn desk′ x ≡ newTicket asked clock
+    here x e = ap (ticketOn desk′) (eqb-true x address e) ∙ g .stands
+
+    there : (x : ℕ) → eqb x address ≡ false → ticketOn desk′ x ≡ ticketOn desk x
+    there x e = g .others x (eqb-false x address e)
+
+    by : (s : Bool) → eqb a address ≡ s → (t : Bool) → eqb b address ≡ t → ⊥
+    by true p true q = jobs (ap (λ (x : Ticket). x .asked .job) (here a p ∙ sym (here b q)))
+    by true p false q =
+        new b (rw (there b q) at live-b) (λ e. jobs (rw (here a p, there b q) (sym e))) (rw (here a p) at used) (sym (rw (here a p, there b q) at same))
+    by false p true q =
+        new a (rw (there a p) at live-a) (λ e. jobs (rw (there a p, here b q) e)) (λ e. used (same ∙ rw (here b q) e)) (rw (there a p, here b q) at same)
+    by false p false q =
+        apart a b (rw (there a p) at live-a) (rw (there b q) at live-b) (λ e. jobs (rw (there a p, there b q) e)) (rw (there a p) at used)
+        (rw (there a p, there b q) at same)
+
+-- a closing leaves open tickets only where they were
+apart-closed : {desk : Desk} {address : ℕ} {left : Ticket} {desk′ : Desk} → ClosedAlone desk address left desk′ → left .live ≡ false → FoldersApart desk
+    → FoldersApart desk′
+apart-closed {desk} {address} {left} {desk′} alone shut apart a b live-a live-b jobs used same =
+    let p = there a live-a in
+    let q = there b live-b in
+    apart a b (rw p at live-a) (rw q at live-b) (λ e. jobs (rw (p, q) e)) (rw p at used) (rw (p, q) at same)
+  where
+    there : (x : ℕ) → OpenOn desk′ x → ticketOn desk′ x ≡ ticketOn desk x
+    there x live = alone .others x (λ e. true≢false (sym live ∙ (ap (λ (y : ℕ). ticketOn desk′ y .live) e ∙ (ap (λ (t : Ticket). t .live) (alone .closed) ∙ shut))))
 
 given : (desk : Desk) (past : List Event) (asked : Request) (clock : ℕ) → Night desk past
     → Given desk asked clock (161 + givenPlace desk clock) (withTicket desk (givenPlace desk clock) (newTicket asked clock)) → SoundRequest asked
+    → (IsFolderHeld desk asked → ⊥)
     → Night (withTicket desk (givenPlace desk clock) (newTicket asked clock)) (opened (161 + givenPlace desk clock) asked clock ∷ past)
 unfolding Kept Right lastOn
-given desk past asked clock n g new =
+given desk past asked clock n g new free =
     record {
       sound =
           record {
@@ -102,8 +141,16 @@ given desk past asked clock n g new =
             places = length-set (desk .tickets) place ticket ∙ n .sound .places;
             sound = sound-store (desk .tickets) place ticket (n .sound .sound) (λ l. new);
           };
+      apart = apart-given g (n .apart) keeps-off;
       kept = λ x. on x (eqb x (161 + place)) refl;
-      right = (free-last (lastOn past (161 + place)) clock (rw (n .kept (161 + place)) at (g .free)), n .right);
+      right = (
+        free-last (lastOn past (161 + place)) clock (rw (n .kept (161 + place)) at (g .free)),
+        λ a theirs opening stood other used same.
+            let is : ticketOn desk a ≡ newTicket theirs opening = n .kept a ∙ ap kept stood in
+            keeps-off a (ap (λ (t : Ticket). t .live) is) (λ e. other (sym (ap (λ (t : Ticket). t .asked .job) is) ∙ e)) used
+            (ap (λ (t : Ticket). t .asked .folder) is ∙ same),
+        n .right,
+      );
     }
   where
     place : ℕ
@@ -111,6 +158,9 @@ given desk past asked clock n g new =
 
     ticket : Ticket
     ticket = newTicket asked clock
+
+    keeps-off : (other : ℕ) → OpenOn desk other → ticketOn desk other .asked .job ≢ asked .job → asked .folder ≢ 0 → ticketOn desk other .asked .folder ≢ asked .folder
+    keeps-off = folder-apart desk asked (n .sound .places) free
 
     on : (x : ℕ) (t : Bool) → eqb x (161 + givenPlace desk clock) ≡ t
         → ticketOn (withTicket desk (givenPlace desk clock) ticket) x ≡ kept (cond t (stands asked clock) (lastOn past x))
@@ -150,7 +200,7 @@ module _ (desk : Desk) (past : List Event) (n : Night desk past) where
       go (some f) e = quiet n
       go none e =
           let fit = fit-to-open desk asked bytes clock (length room) e in
-          given desk past asked clock n (given-at desk asked clock (n .sound .places) (fit .1)) (allowed-sound asked bytes (fit .0))
+          given desk past asked clock n (given-at desk asked clock (n .sound .places) (fit .1)) (allowed-sound asked bytes (fit .0)) (fit .3)
 
   -- the opening of a ticket that is open
   there : (address : ℕ) → OpenOn desk address
@@ -175,6 +225,7 @@ module _ (desk : Desk) (past : List Event) (n : Night desk past) where
           let s = there (fieldsIn frame .destination) (fit .1) in
           record {
             sound = closed-sound desk (fieldsIn frame .destination - 161) noTicket refl (n .sound);
+            apart = apart-closed (answers-alone desk (fieldsIn frame .destination) (fit .1)) refl (n .apart);
             kept =
                 closed-kept desk past (fieldsIn frame .destination) answered (answeredOn desk (fieldsIn frame .destination)) n (answers-alone desk _ (fit .1));
             right = (
@@ -186,6 +237,7 @@ module _ (desk : Desk) (past : List Event) (n : Night desk past) where
                 from-module = fit .2 ∙ ap (λ (x : Ticket). x .asked .unit) (s .3);
                 kind-fits = rw (s .3) at (fit .3);
                 register-fits = rw (s .3) at (fit .4);
+                in-folder = ap (λ (x : Ticket). x .asked .folder) (s .3);
               },
               n .right,
             );
@@ -199,8 +251,18 @@ module _ (desk : Desk) (past : List Event) (n : Night desk past) where
       let s = there address (live refl) in
       record {
         sound = closed-sound desk (address - 161) (withdrawnAt clock) refl (n .sound);
+        apart = apart-closed (withdraws-alone desk address clock (live refl)) refl (n .apart);
         kept = closed-kept desk past address (givenUp clock) (withdrawnOn desk address clock) n (withdraws-alone desk address clock (live refl));
-        right = (record { asked = s .0; opening = s .1; is-open = s .2; theirs = ap (λ (x : Ticket). x .asked .job) (s .3) }, n .right);
+        right = (
+          record {
+            asked = s .0;
+            opening = s .1;
+            is-open = s .2;
+            theirs = ap (λ (x : Ticket). x .asked .job) (s .3);
+            in-folder = ap (λ (x : Ticket). x .asked .folder) (s .3);
+          },
+          n .right,
+        );
       }
 
   pub step : (call : Call) → Night (after desk call) (eventOf desk call ∷ past)
@@ -211,11 +273,6 @@ module _ (desk : Desk) (past : List Event) (n : Night desk past) where
   step (expires clock) = after-closing (expireRefusal desk clock) (161 + duePlace desk clock) clock (λ e. fit-to-expire desk clock e .1 .0)
 
 -- ---- any sequence
-
-empty-place : (n place : ℕ) → getD (replicate n noTicket) place noTicket ≡ noTicket
-empty-place zero place = refl
-empty-place (suc n) zero = refl
-empty-place (suc n) (suc place) = empty-place n place
 
 no-ticket : (address : ℕ) → ticketOn freshDesk address ≡ noTicket
 no-ticket address = go (leb 161 address)
@@ -234,19 +291,21 @@ fresh-night =
             places = length-replicate 95 noTicket;
             sound = λ place live. absurd (true≢false (sym live ∙ ap (λ (t : Ticket). t .live) (empty-place 95 place)));
           };
+      apart = λ a b live-a live-b jobs used same. true≢false (sym live-a ∙ ap (λ (t : Ticket). t .live) (no-ticket a));
       kept = λ address. no-ticket address;
       right = tt;
     }
 
-night-on : (calls : List Call) (desk : Desk) (past : List Event) → Night desk past → Night (afterAll desk calls) (answeredAll desk past calls)
+pub night-on : (calls : List Call) (desk : Desk) (past : List Event) → Night desk past → Night (afterAll desk calls) (answeredAll desk past calls)
 unfolding afterAll answeredAll
 night-on [] desk past n = n
 night-on (call ∷ calls) desk past n = night-on calls (after desk call) (eventOf desk call ∷ past) (step desk past n call)
 
 -- from a fresh desk on, after any calls: what stands on each address is exactly the ticket of the last opening there with no closing since,
 -- or what is kept of one that was cancelled or expired, or nothing; an address is given only where no ticket stands and where it does not
--- rest; every booking fits that opening's module, kind and register and answers its job; every cancel and expiry answers that opening's job
--- and address; and the desk is sound
+-- rest, and on no folder that another job has a ticket on; every booking fits that opening's module, kind and register and answers its job and
+-- folder; every cancel and expiry answers that opening's job, address and folder; no two open tickets of different jobs hold the same folder
+-- other than 0; and the desk is sound
 pub any-night : (calls : List Call) → Night (afterAll freshDesk calls) (answeredAll freshDesk [] calls)
 any-night calls = night-on calls freshDesk [] fresh-night
 
@@ -264,29 +323,33 @@ module _ (calls : List Call) (call : Call) where
   pub opened-where-free : (address : ℕ) (asked : Request) (clock : ℕ) → eventOf desk-then call ≡ opened address asked clock
       → ((theirs : Request) (opening : ℕ) → lastOn past-then address ≡ stands theirs opening → ⊥)
       × ((closing : ℕ) → lastOn past-then address ≡ givenUp closing → 1000 ≤ age clock closing)
+      × ((other : ℕ) (theirs : Request) (opening : ℕ) → lastOn past-then other ≡ stands theirs opening
+      → theirs .job ≢ asked .job → asked .folder ≢ 0 → theirs .folder ≢ asked .folder)
   unfolding Right
   opened-where-free address asked clock e =
       let may : MayBeGiven (lastOn past-then address) clock = (rw e at right-then) .0 in
-      (λ theirs opening p. subst (λ (l : Last). MayBeGiven l clock) p may, λ closing p. subst (λ (l : Last). MayBeGiven l clock) p may)
+      let free : FolderFree past-then asked = (rw e at right-then) .1 in
+      (λ theirs opening p. subst (λ (l : Last). MayBeGiven l clock) p may, λ closing p. subst (λ (l : Last). MayBeGiven l clock) p may, free)
 
-  pub booked-where-fits : (job address source sort register : ℕ) → eventOf desk-then call ≡ booked job address source sort register
+  pub booked-where-fits : (job address source sort register folder : ℕ) → eventOf desk-then call ≡ booked job address source sort register folder
       → (asked : Request) × (opening : ℕ)
       × (lastOn past-then address ≡ stands asked opening)
       × (job ≡ asked .job)
       × (source ≡ asked .unit)
       × KindFits (asked .sort) sort
       × RegisterFits (asked .register) sort register
+      × (folder ≡ asked .folder)
   unfolding Right
-  booked-where-fits job address source sort register e =
-      let fit : Fitting (lastOn past-then address) job source sort register = (rw e at right-then) .0 in
-      (fit .asked, fit .opening, fit .is-open, fit .theirs, fit .from-module, fit .kind-fits, fit .register-fits)
+  booked-where-fits job address source sort register folder e =
+      let fit : Fitting (lastOn past-then address) job source sort register folder = (rw e at right-then) .0 in
+      (fit .asked, fit .opening, fit .is-open, fit .theirs, fit .from-module, fit .kind-fits, fit .register-fits, fit .in-folder)
 
-  pub withdrawn-where-theirs : (job address clock : ℕ) → eventOf desk-then call ≡ withdrawn job address clock
-      → (asked : Request) × (opening : ℕ) × (lastOn past-then address ≡ stands asked opening) × (job ≡ asked .job)
+  pub withdrawn-where-theirs : (job address folder clock : ℕ) → eventOf desk-then call ≡ withdrawn job address folder clock
+      → (asked : Request) × (opening : ℕ) × (lastOn past-then address ≡ stands asked opening) × (job ≡ asked .job) × (folder ≡ asked .folder)
   unfolding Right
-  withdrawn-where-theirs job address clock e =
-      let own : Theirs (lastOn past-then address) job = (rw e at right-then) .0 in
-      (own .asked, own .opening, own .is-open, own .theirs)
+  withdrawn-where-theirs job address folder clock e =
+      let own : Theirs (lastOn past-then address) job folder = (rw e at right-then) .0 in
+      (own .asked, own .opening, own .is-open, own .theirs, own .in-folder)
 
 -- at most one ticket to an address and at most 95 in all: a ticket is open on a host address or not at all
 pub on-hosts-only : (desk : Desk) → SoundDesk desk → (address : ℕ) → OpenOn desk address → (161 ≤ address) × (address ≤ 255)

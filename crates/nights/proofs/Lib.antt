@@ -4,3 +4,4 @@ pub mod Plainly
 pub mod Count
 pub mod Late
 pub mod Looked
+pub mod Between

@@ -115,21 +115,21 @@ others-are desk place = refl
 
 -- ---- what became of the last ticket on an address: the last opening or closing there decides, and what happens elsewhere does not
 
-pub last-there : (past : List Event) (asked : Request) (clock job source sort register a : ℕ)
+pub last-there : (past : List Event) (asked : Request) (clock job source sort register folder a : ℕ)
     → (lastOn (opened a asked clock ∷ past) a ≡ stands asked clock)
-    × (lastOn (booked job a source sort register ∷ past) a ≡ answered)
-    × (lastOn (withdrawn job a clock ∷ past) a ≡ givenUp clock)
+    × (lastOn (booked job a source sort register folder ∷ past) a ≡ answered)
+    × (lastOn (withdrawn job a folder clock ∷ past) a ≡ givenUp clock)
     × (lastOn (nothing ∷ past) a ≡ lastOn past a)
 unfolding lastOn
-last-there past asked clock job source sort register a =
+last-there past asked clock job source sort register folder a =
     let same : eqb a a ≡ true = eq-eqb a a refl in
     (rw same, rw same, rw same, refl)
 
-pub last-elsewhere : (past : List Event) (asked : Request) (clock job source sort register address a : ℕ) → a ≢ address
+pub last-elsewhere : (past : List Event) (asked : Request) (clock job source sort register folder address a : ℕ) → a ≢ address
     → (lastOn (opened address asked clock ∷ past) a ≡ lastOn past a)
-    × (lastOn (booked job address source sort register ∷ past) a ≡ lastOn past a)
-    × (lastOn (withdrawn job address clock ∷ past) a ≡ lastOn past a)
+    × (lastOn (booked job address source sort register folder ∷ past) a ≡ lastOn past a)
+    × (lastOn (withdrawn job address folder clock ∷ past) a ≡ lastOn past a)
 unfolding lastOn
-last-elsewhere past asked clock job source sort register address a other =
+last-elsewhere past asked clock job source sort register folder address a other =
     let differ = ne-eqb a address other in
     (rw differ, rw differ, rw differ)

@@ -8,7 +8,7 @@ use Prim.Native.Nat.{ℕ, _+_, _≤_, _<_}
 use lib.Dec.{eqb}
 use lib.ListN.{length}
 use Rattle.desk.specs.Close.{cancelRefusal, duePlace, expireRefusal, closeAnswer, closeDesk}
-use Rattle.desk.specs.Desk.{ticketAt, ticketOn}
+use Rattle.desk.specs.Desk.{ticketAt, ticketOn, OpenOn}
 use Rattle.desk.specs.Open.{givenPlace, requestAt, openRefusal, openAnswer, openDesk}
 use Rattle.desk.specs.Reply.{replyRefusal, bookAnswer, bookDesk}
 use Rattle.desk.specs.declared.Desk.{Desk}
@@ -32,12 +32,13 @@ pub data Call : Type 0 where
   cancels : (job address clock : ℕ) → Call
   expires : (clock : ℕ) → Call
 
--- what the caller saw: the address that was answered, with the whole request that was asked and the clock; the job and address that were
--- answered with what came, its source, type and register; or the job and address of a ticket that was cancelled or expired, and the clock
+-- what the caller saw: the address that was answered, with the whole request that was asked and the clock; the job, address and folder that
+-- were answered with what came, its source, type and register; or the job, address and folder of a ticket that was cancelled or expired, and
+-- the clock
 pub data Event : Type 0 where
   opened : (address : ℕ) (asked : Request) (clock : ℕ) → Event
-  booked : (job address source sort register : ℕ) → Event
-  withdrawn : (job address clock : ℕ) → Event
+  booked : (job address source sort register folder : ℕ) → Event
+  withdrawn : (job address folder clock : ℕ) → Event
   nothing : Event
 
 -- the desk after a call, and what was answered, as the contracts of `open`, `reply`, `cancel` and `expire` say
@@ -53,11 +54,11 @@ ofOpening (Opened address n) asked clock = opened address asked clock
 ofOpening (NotOpened f) asked clock = nothing
 
 abbrev pub ofBooking : Booking → List ℕ → Event
-ofBooking (Booked job address sort n) frame = booked job address (fieldsIn frame .source) sort (fieldsIn frame .register)
+ofBooking (Booked job address sort n folder) frame = booked job address (fieldsIn frame .source) sort (fieldsIn frame .register) folder
 ofBooking (NotBooked f) frame = nothing
 
 abbrev pub ofClosing : Closing → ℕ → Event
-ofClosing (Closed job address) clock = withdrawn job address clock
+ofClosing (Closed job address folder) clock = withdrawn job address folder clock
 ofClosing (NotClosed f) clock = nothing
 
 unfoldable pub eventOf : Desk → Call → Event
@@ -94,8 +95,8 @@ pub data Last : Type 0 where
 unfoldable pub lastOn : List Event → ℕ → Last
 lastOn [] a = never
 lastOn (opened address asked clock ∷ past) a = cond (eqb a address) (stands asked clock) (lastOn past a)
-lastOn (booked job address source sort register ∷ past) a = cond (eqb a address) answered (lastOn past a)
-lastOn (withdrawn job address clock ∷ past) a = cond (eqb a address) (givenUp clock) (lastOn past a)
+lastOn (booked job address source sort register folder ∷ past) a = cond (eqb a address) answered (lastOn past a)
+lastOn (withdrawn job address folder clock ∷ past) a = cond (eqb a address) (givenUp clock) (lastOn past a)
 lastOn (nothing ∷ past) a = lastOn past a
 
 -- the address may be given at a clock: no ticket stands there, and it does not rest
@@ -105,8 +106,13 @@ MayBeGiven (stands asked opening) clock = ⊥
 MayBeGiven answered clock = Unit {0}
 MayBeGiven (givenUp closing) clock = 1000 ≤ age clock closing
 
--- what came fits the opening that stands there, and its job was answered
-pub record Fitting (there : Last) (job source sort register : ℕ) : Type 0 where
+-- 02, #110: no other job has a ticket that stands on the folder that is asked for
+abbrev pub FolderFree : List Event → Request → Type 0
+FolderFree past asked = (address : ℕ) (theirs : Request) (clock : ℕ) → lastOn past address ≡ stands theirs clock
+    → theirs .job ≢ asked .job → asked .folder ≢ 0 → theirs .folder ≢ asked .folder
+
+-- what came fits the opening that stands there, and its job and folder were answered
+pub record Fitting (there : Last) (job source sort register folder : ℕ) : Type 0 where
   pub asked : Request
   pub opening : ℕ
   pub is-open : there ≡ stands asked opening
@@ -114,21 +120,24 @@ pub record Fitting (there : Last) (job source sort register : ℕ) : Type 0 wher
   pub from-module : source ≡ asked .unit
   pub kind-fits : KindFits (asked .sort) sort
   pub register-fits : RegisterFits (asked .register) sort register
+  pub in-folder : folder ≡ asked .folder
 
--- the job of the opening that stands there was answered
-pub record Theirs (there : Last) (job : ℕ) : Type 0 where
+-- the job and the folder of the opening that stands there were answered
+pub record Theirs (there : Last) (job folder : ℕ) : Type 0 where
   pub asked : Request
   pub opening : ℕ
   pub is-open : there ≡ stands asked opening
   pub theirs : job ≡ asked .job
+  pub in-folder : folder ≡ asked .folder
 
--- an address is given only where no ticket stands and where it does not rest; every booking fits that opening's module, kind and register and
--- answers its job; every cancel and expiry answers that opening's job and address
+-- an address is given only where no ticket stands and where it does not rest, and on no folder that another job has a ticket on; every booking
+-- fits that opening's module, kind and register and answers its job and folder; every cancel and expiry answers that opening's job, address and
+-- folder
 unfoldable pub Right : List Event → Type 0
 Right [] = Unit {0}
-Right (opened address asked clock ∷ past) = MayBeGiven (lastOn past address) clock × Right past
-Right (booked job address source sort register ∷ past) = Fitting (lastOn past address) job source sort register × Right past
-Right (withdrawn job address clock ∷ past) = Theirs (lastOn past address) job × Right past
+Right (opened address asked clock ∷ past) = MayBeGiven (lastOn past address) clock × FolderFree past asked × Right past
+Right (booked job address source sort register folder ∷ past) = Fitting (lastOn past address) job source sort register folder × Right past
+Right (withdrawn job address folder clock ∷ past) = Theirs (lastOn past address) job folder × Right past
 Right (nothing ∷ past) = Right past
 
 -- what the desk keeps of it
@@ -157,8 +166,14 @@ pub record SoundDesk (desk : Desk) : Type 0 where
   pub places : length (desk .tickets) ≡ 95
   pub sound : (place : ℕ) → Open (ticketAt desk place) → SoundRequest (ticketAt desk place .asked)
 
+-- 02, #110: "No two open tickets of different jobs may hold the same folder other than 0"
+abbrev pub FoldersApart : Desk → Type 0
+FoldersApart desk = (a b : ℕ) → OpenOn desk a → OpenOn desk b → ticketOn desk a .asked .job ≢ ticketOn desk b .asked .job
+    → ticketOn desk a .asked .folder ≢ 0 → ticketOn desk a .asked .folder ≢ ticketOn desk b .asked .folder
+
 -- a night so far
 pub record Night (desk : Desk) (past : List Event) : Type 0 where
   pub sound : SoundDesk desk
+  pub apart : FoldersApart desk
   pub kept : Kept desk past
   pub right : Right past

@@ -58,8 +58,8 @@ OpensWhile such desk calls = Each (λ d c. (place clock : ℕ) → GivesAt d c p
 -- an answer that gives an address counts as one opening
 abbrev pub oneOpening : Event → ℕ
 oneOpening (opened address asked clock) = 1
-oneOpening (booked job address source sort register) = 0
-oneOpening (withdrawn job address clock) = 0
+oneOpening (booked job address source sort register folder) = 0
+oneOpening (withdrawn job address folder clock) = 0
 oneOpening nothing = 0
 
 -- how many of the calls are openings, by their answers

@@ -26,7 +26,7 @@ use Rattle.ticket.specs.declared.Ticket.{Ticket}
 use Rattle.desk.specs.declared.Desk.{Desk}
 use Rattle.nights.specs.Night.{Event, Call, Night, expires, withdrawn, ofClosing, after, eventOf, afterAll, answeredAll}
 use Rattle.overdue.specs.declared.Swept.{Swept}
-use Rattle.overdue.specs.Overdue.{expired, entries, howMany, deskAfter, roomIn, jobOf, addressOf, told, ExpiresAll}
+use Rattle.overdue.specs.Overdue.{expired, entries, howMany, deskAfter, roomIn, jobOf, addressOf, folderOf, told, ExpiresAll}
 use Rattle.overdue.specs.Promised.{Entered, Sweeping}
 use Rattle.overdue.proofs.Pass.{NoneUnder, expired-here, withdrawn-at, nothing-more, one-more, none-on, room-is}
 
@@ -60,18 +60,27 @@ step desk clock = elim (decLt (duePlace desk clock) 95) [
   | no h ↦ inl (no-due desk clock h)
 ]
 
--- an entry is its job and then its address; the first, and the others
-pub first-entry : (job address : ℕ) (rest : List ℕ) → (jobOf (job ∷ address ∷ rest) 0 ≡ job) × (addressOf (job ∷ address ∷ rest) 0 ≡ address)
-unfolding jobOf addressOf
-first-entry job address rest = (refl, refl)
+-- an entry is its job, then its address, then its folder; the first, and the others
+pub first-entry : (job address folder : ℕ) (rest : List ℕ)
+    → (jobOf (job ∷ address ∷ folder ∷ rest) 0 ≡ job)
+    × (addressOf (job ∷ address ∷ folder ∷ rest) 0 ≡ address)
+    × (folderOf (job ∷ address ∷ folder ∷ rest) 0 ≡ folder)
+unfolding jobOf addressOf folderOf
+first-entry job address folder rest = (refl, refl, refl)
 
-pub entry-on : (job address : ℕ) (rest : List ℕ) (i : ℕ)
-    → (jobOf (job ∷ address ∷ rest) (suc i) ≡ jobOf rest i) × (addressOf (job ∷ address ∷ rest) (suc i) ≡ addressOf rest i)
-unfolding jobOf addressOf
-entry-on job address rest i =
-    let a : 2 * suc i ≡ suc (suc (2 * i)) = omega arith in
-    let b : 2 * suc i + 1 ≡ suc (suc (2 * i + 1)) = omega arith in
-    (ap (λ (k : ℕ). getD (job ∷ address ∷ rest) k 0) a, ap (λ (k : ℕ). getD (job ∷ address ∷ rest) k 0) b)
+pub entry-on : (job address folder : ℕ) (rest : List ℕ) (i : ℕ)
+    → (jobOf (job ∷ address ∷ folder ∷ rest) (suc i) ≡ jobOf rest i)
+    × (addressOf (job ∷ address ∷ folder ∷ rest) (suc i) ≡ addressOf rest i)
+    × (folderOf (job ∷ address ∷ folder ∷ rest) (suc i) ≡ folderOf rest i)
+unfolding jobOf addressOf folderOf
+entry-on job address folder rest i =
+    let a : 3 * suc i ≡ suc (suc (suc (3 * i))) = omega arith in
+    let b : 3 * suc i + 1 ≡ suc (suc (suc (3 * i + 1))) = omega arith in
+    let c : 3 * suc i + 2 ≡ suc (suc (suc (3 * i + 2))) = omega arith in (
+      ap (λ (k : ℕ). getD (job ∷ address ∷ folder ∷ rest) k 0) a,
+      ap (λ (k : ℕ). getD (job ∷ address ∷ folder ∷ rest) k 0) b,
+      ap (λ (k : ℕ). getD (job ∷ address ∷ folder ∷ rest) k 0) c,
+    )
 
 -- ---- "every entry is a ticket that was open and due"
 
@@ -105,19 +114,20 @@ by-place : (n : ℕ) (desk : Desk) (clock i k : ℕ) → k < 95 → isDue clock 
     → Entered desk clock (entries (suc n) desk clock) i
 by-place n desk clock zero k h due before l rest =
     let next = withdrawnOn desk (161 + k) clock in
-    let more = one-more n desk next clock (ticketAt desk k .asked .job) (161 + k) (expired-here desk clock k h before due) in
-    let one = first-entry (ticketAt desk k .asked .job) (161 + k) (entries n next clock) in
+    let more = one-more n desk next clock (ticketAt desk k .asked .job) (161 + k) (ticketAt desk k .asked .folder) (expired-here desk clock k h before due) in
+    let one = first-entry (ticketAt desk k .asked .job) (161 + k) (ticketAt desk k .asked .folder) (entries n next clock) in
     record {
       place = k;
       host = h;
       address = rw (more .0) (one .1);
       due = due-on desk clock k due;
       job = rw (more .0, on-host desk k) (one .0);
+      folder = rw (more .0, on-host desk k) (one .2);
     }
 by-place n desk clock (suc i) k h due before l rest =
     let next = withdrawnOn desk (161 + k) clock in
-    let more = one-more n desk next clock (ticketAt desk k .asked .job) (161 + k) (expired-here desk clock k h before due) in
-    let on = entry-on (ticketAt desk k .asked .job) (161 + k) (entries n next clock) i in
+    let more = one-more n desk next clock (ticketAt desk k .asked .job) (161 + k) (ticketAt desk k .asked .folder) (expired-here desk clock k h before due) in
+    let on = entry-on (ticketAt desk k .asked .job) (161 + k) (ticketAt desk k .asked .folder) (entries n next clock) i in
     let later : Entered next clock (entries n next clock) i = rest i (omega (arith, l, more .1)) in
     let still = due-still desk clock k (later .place) before (on-due next clock (later .place) (later .due)) in
     let same : ticketOn next (161 + later .place) ≡ ticketOn desk (161 + later .place) = on-host next (later .place) ∙ (still .1 ∙ sym (on-host desk (later .place))) in
@@ -127,6 +137,7 @@ by-place n desk clock (suc i) k h due before l rest =
       address = rw (more .0) (on .1 ∙ later .address);
       due = rw same at (later .due);
       job = rw (more .0) (on .0 ∙ (later .job ∙ ap (λ (t : Ticket). t .asked .job) same));
+      folder = rw (more .0) (on .2 ∙ (later .folder ∙ ap (λ (t : Ticket). t .asked .folder) same));
     }
 
 pub each-due : (n : ℕ) (desk : Desk) (clock i : ℕ) → i < howMany n desk clock → Entered desk clock (entries n desk clock) i
@@ -152,16 +163,16 @@ by-first : (n : ℕ) (desk : Desk) (clock i k : ℕ) → k < 95 → isDue clock 
     → addressOf (entries (suc n) desk clock) i < addressOf (entries (suc n) desk clock) (suc i)
 by-first n desk clock zero k h due before l rest =
     let next = withdrawnOn desk (161 + k) clock in
-    let more = one-more n desk next clock (ticketAt desk k .asked .job) (161 + k) (expired-here desk clock k h before due) in
-    let one = first-entry (ticketAt desk k .asked .job) (161 + k) (entries n next clock) in
-    let on = entry-on (ticketAt desk k .asked .job) (161 + k) (entries n next clock) 0 in
+    let more = one-more n desk next clock (ticketAt desk k .asked .job) (161 + k) (ticketAt desk k .asked .folder) (expired-here desk clock k h before due) in
+    let one = first-entry (ticketAt desk k .asked .job) (161 + k) (ticketAt desk k .asked .folder) (entries n next clock) in
+    let on = entry-on (ticketAt desk k .asked .job) (161 + k) (ticketAt desk k .asked .folder) (entries n next clock) 0 in
     let over-it : 161 + (k + 1) ≤ addressOf (entries n next clock) 0 = above n next clock (k + 1) 0 (none-on desk clock k before) (omega (arith, l, more .1)) in
     rw (more .0, one .1, on .1) (omega arith)
 by-first n desk clock (suc i) k h due before l rest =
     let next = withdrawnOn desk (161 + k) clock in
-    let more = one-more n desk next clock (ticketAt desk k .asked .job) (161 + k) (expired-here desk clock k h before due) in
-    let here = entry-on (ticketAt desk k .asked .job) (161 + k) (entries n next clock) i in
-    let there = entry-on (ticketAt desk k .asked .job) (161 + k) (entries n next clock) (suc i) in
+    let more = one-more n desk next clock (ticketAt desk k .asked .job) (161 + k) (ticketAt desk k .asked .folder) (expired-here desk clock k h before due) in
+    let here = entry-on (ticketAt desk k .asked .job) (161 + k) (ticketAt desk k .asked .folder) (entries n next clock) i in
+    let there = entry-on (ticketAt desk k .asked .job) (161 + k) (ticketAt desk k .asked .folder) (entries n next clock) (suc i) in
     rw (more .0, here .1, there .1) (rest i (omega (arith, l, more .1)))
 
 pub entries-rise : (n : ℕ) (desk : Desk) (clock i : ℕ) → suc i < howMany n desk clock → addressOf (entries n desk clock) i < addressOf (entries n desk clock) (suc i)
@@ -184,11 +195,12 @@ stay-first : (n : ℕ) (desk : Desk) (clock place k : ℕ) → k < 95 → isDue 
 stay-first n desk clock place k h due before apart rest =
     let next = withdrawnOn desk (161 + k) clock in
     let job = ticketAt desk k .asked .job in
-    let more = one-more n desk next clock job (161 + k) (expired-here desk clock k h before due) in
+    let folder = ticketAt desk k .asked .folder in
+    let more = one-more n desk next clock job (161 + k) folder (expired-here desk clock k h before due) in
     let elsewhere : place ≢ k =
-    (λ e. apart 0 (omega (arith, more .1)) (rw (more .0) (first-entry job (161 + k) (entries n next clock) .1 ∙ ap (λ (p : ℕ). 161 + p) (sym e)))) in
+    (λ e. apart 0 (omega (arith, more .1)) (rw (more .0) (first-entry job (161 + k) folder (entries n next clock) .1 ∙ ap (λ (p : ℕ). 161 + p) (sym e)))) in
     ap (λ (d : Desk). ticketAt d place) (more .2)
-    ∙ (rest (λ i l e. apart (suc i) (omega (arith, l, more .1)) (rw (more .0) (entry-on job (161 + k) (entries n next clock) i .1 ∙ e)))
+    ∙ (rest (λ i l e. apart (suc i) (omega (arith, l, more .1)) (rw (more .0) (entry-on job (161 + k) folder (entries n next clock) i .1 ∙ e)))
     ∙ other-place desk clock k place elsewhere)
 
 pub others-stay : (n : ℕ) (desk : Desk) (clock place : ℕ) → ((i : ℕ) → i < howMany n desk clock → addressOf (entries n desk clock) i ≢ 161 + place)
@@ -213,15 +225,17 @@ rest-first : (n : ℕ) (desk : Desk) (clock i k : ℕ) → k < 95 → isDue cloc
 rest-first n desk clock zero k h due before l rest =
     let next = withdrawnOn desk (161 + k) clock in
     let job = ticketAt desk k .asked .job in
-    let more = one-more n desk next clock job (161 + k) (expired-here desk clock k h before due) in
+    let folder = ticketAt desk k .asked .folder in
+    let more = one-more n desk next clock job (161 + k) folder (expired-here desk clock k h before due) in
     let higher : (i : ℕ) → i < howMany n next clock → addressOf (entries n next clock) i ≢ 161 + k =
     (λ i l e. let a : 161 + (k + 1) ≤ addressOf (entries n next clock) i = above n next clock (k + 1) i (none-on desk clock k before) l in omega (arith, a, e)) in
-    rw (more .0, more .2, first-entry job (161 + k) (entries n next clock) .1) (on-host (deskAfter n next clock) k ∙ (others-stay n next clock k higher ∙ closed-rests desk clock k due))
+    rw (more .0, more .2, first-entry job (161 + k) folder (entries n next clock) .1) (on-host (deskAfter n next clock) k ∙ (others-stay n next clock k higher ∙ closed-rests desk clock k due))
 rest-first n desk clock (suc i) k h due before l rest =
     let next = withdrawnOn desk (161 + k) clock in
     let job = ticketAt desk k .asked .job in
-    let more = one-more n desk next clock job (161 + k) (expired-here desk clock k h before due) in
-    rw (more .0, more .2, entry-on job (161 + k) (entries n next clock) i .1) (rest i (omega (arith, l, more .1)))
+    let folder = ticketAt desk k .asked .folder in
+    let more = one-more n desk next clock job (161 + k) folder (expired-here desk clock k h before due) in
+    rw (more .0, more .2, entry-on job (161 + k) folder (entries n next clock) i .1) (rest i (omega (arith, l, more .1)))
 
 pub each-rests : (n : ℕ) (desk : Desk) (clock i : ℕ) → i < howMany n desk clock
     → ticketOn (deskAfter n desk clock) (addressOf (entries n desk clock) i) ≡ withdrawnAt clock
@@ -235,7 +249,7 @@ pub turn-stays : (n : ℕ) (desk : Desk) (clock : ℕ) → deskAfter n desk cloc
 turn-stays zero desk clock = ap (λ (d : Desk). d .turn) (none-done desk clock)
 turn-stays (suc n) desk clock = ⊎-elim
     (λ nothing. ap (λ (d : Desk). d .turn) (nothing-more (suc n) desk clock nothing .2))
-    (λ s. ap (λ (d : Desk). d .turn) (one-more n desk (withdrawnOn desk (161 + s .0) clock) clock _ _ (expired-here desk clock (s .0) (s .1) (s .3) (s .2)) .2)
+    (λ s. ap (λ (d : Desk). d .turn) (one-more n desk (withdrawnOn desk (161 + s .0) clock) clock _ _ _ (expired-here desk clock (s .0) (s .1) (s .3) (s .2)) .2)
     ∙ turn-stays n (withdrawnOn desk (161 + s .0) clock) clock) (step desk clock)
 
 -- ---- "until the list is full or nothing is due"
@@ -245,7 +259,9 @@ count-within zero desk clock = omega (arith, none-of desk clock)
 count-within (suc n) desk clock = ⊎-elim
     (λ nothing. omega (arith, nothing-more (suc n) desk clock nothing .1))
     (λ s.
-    let more = one-more n desk (withdrawnOn desk (161 + s .0) clock) clock (ticketAt desk (s .0) .asked .job) (161 + s .0) (expired-here desk clock (s .0) (s .1) (s .3) (s .2)) in
+    let more =
+    one-more n desk (withdrawnOn desk (161 + s .0) clock) clock (ticketAt desk (s .0) .asked .job) (161 + s .0) (ticketAt desk (s .0) .asked .folder)
+    (expired-here desk clock (s .0) (s .1) (s .3) (s .2)) in
     omega (arith, more .1, count-within n (withdrawnOn desk (161 + s .0) clock) clock)) (step desk clock)
 
 none-left : (n : ℕ) (desk : Desk) (clock : ℕ) → howMany n desk clock < n → NoneUnder (deskAfter n desk clock) clock 95
@@ -253,30 +269,35 @@ none-left zero desk clock h = absurd (omega arith)
 none-left (suc n) desk clock h = ⊎-elim
     (λ nothing. subst (λ (d : Desk). NoneUnder d clock 95) (sym (nothing-more (suc n) desk clock nothing .2)) nothing)
     (λ s.
-    let more = one-more n desk (withdrawnOn desk (161 + s .0) clock) clock (ticketAt desk (s .0) .asked .job) (161 + s .0) (expired-here desk clock (s .0) (s .1) (s .3) (s .2)) in
+    let more =
+    one-more n desk (withdrawnOn desk (161 + s .0) clock) clock (ticketAt desk (s .0) .asked .job) (161 + s .0) (ticketAt desk (s .0) .asked .folder)
+    (expired-here desk clock (s .0) (s .1) (s .3) (s .2)) in
     subst (λ (d : Desk). NoneUnder d clock 95) (sym (more .2)) (none-left n (withdrawnOn desk (161 + s .0) clock) clock (omega (arith, more .1, h)))) (step desk clock)
 
 pub nothing-left : (n : ℕ) (desk : Desk) (clock : ℕ) → howMany n desk clock < n → (place : ℕ) → place < 95 → IsDue clock (ticketAt (deskAfter n desk clock) place) → ⊥
 nothing-left n desk clock h place l due = true≢false (sym (told-true (decides-due clock (ticketAt (deskAfter n desk clock) place)) due) ∙ none-left n desk clock h place l)
 
-no-entries : (desk : Desk) (clock : ℕ) → length (entries 0 desk clock) ≡ 2 * howMany 0 desk clock
+no-entries : (desk : Desk) (clock : ℕ) → length (entries 0 desk clock) ≡ 3 * howMany 0 desk clock
 unfolding entries howMany
 no-entries desk clock = refl
 
-pub entries-long : (n : ℕ) (desk : Desk) (clock : ℕ) → length (entries n desk clock) ≡ 2 * howMany n desk clock
+pub entries-long : (n : ℕ) (desk : Desk) (clock : ℕ) → length (entries n desk clock) ≡ 3 * howMany n desk clock
 entries-long zero desk clock = no-entries desk clock
 entries-long (suc n) desk clock = ⊎-elim
     (λ nothing. let no-more = nothing-more (suc n) desk clock nothing in rw (no-more .0, no-more .1))
     (λ s.
-    let more = one-more n desk (withdrawnOn desk (161 + s .0) clock) clock (ticketAt desk (s .0) .asked .job) (161 + s .0) (expired-here desk clock (s .0) (s .1) (s .3) (s .2)) in
+    let more =
+    one-more n desk (withdrawnOn desk (161 + s .0) clock) clock (ticketAt desk (s .0) .asked .job) (161 + s .0) (ticketAt desk (s .0) .asked .folder)
+    (expired-here desk clock (s .0) (s .1) (s .3) (s .2)) in
     rw (more .0, more .1) (omega (arith, entries-long n (withdrawnOn desk (161 + s .0) clock) clock))) (step desk clock)
 
--- ---- so of the call: "and unused entries stay", a last half entry too
+-- ---- so of the call: "and unused entries stay", part of a last entry too
 
 -- an entry of the list is the definition's
-entry-of : (es rest : List ℕ) (i n : ℕ) → length es ≡ 2 * n → i < n → (jobOf (es ++ rest) i ≡ jobOf es i) × (addressOf (es ++ rest) i ≡ addressOf es i)
-unfolding jobOf addressOf
-entry-of es rest i n long h = (front (2 * i) (omega arith), front (2 * i + 1) (omega arith))
+entry-of : (es rest : List ℕ) (i n : ℕ) → length es ≡ 3 * n → i < n
+    → (jobOf (es ++ rest) i ≡ jobOf es i) × (addressOf (es ++ rest) i ≡ addressOf es i) × (folderOf (es ++ rest) i ≡ folderOf es i)
+unfolding jobOf addressOf folderOf
+entry-of es rest i n long h = (front (3 * i) (omega arith), front (3 * i + 1) (omega arith), front (3 * i + 2) (omega arith))
   where
     front : (j : ℕ) → j < length es → getD (es ++ rest) j 0 ≡ getD es j 0
     front j l = sym (getD-take (length es) (es ++ rest) j 0 l) ∙ ap (λ (l : List ℕ). getD l j 0) (take-append-seam es rest)
@@ -290,13 +311,13 @@ module _ (desk : Desk) (clock : ℕ) (list : List ℕ) (r : Swept) (list′ : Li
 
   room-for : length es ≤ length list
   unfolding n es roomIn
-  room-for = omega (arith, entries-long (length list / 2) desk clock, count-within (length list / 2) desk clock)
+  room-for = omega (arith, entries-long (length list / 3) desk clock, count-within (length list / 3) desk clock)
 
   laid : list′ ≡ es ++ drop (length es) list
   unfolding n es
   laid = p .2 ∙ over-is (entries (roomIn list) desk clock) list room-for
 
-  same-entry : (i : ℕ) → i < howMany n desk clock → (jobOf list′ i ≡ jobOf es i) × (addressOf list′ i ≡ addressOf es i)
+  same-entry : (i : ℕ) → i < howMany n desk clock → (jobOf list′ i ≡ jobOf es i) × (addressOf list′ i ≡ addressOf es i) × (folderOf list′ i ≡ folderOf es i)
   unfolding n es
   same-entry i l = rw laid (entry-of es (drop (length es) list) i (howMany n desk clock) (entries-long n desk clock) l)
 
@@ -309,7 +330,7 @@ module _ (desk : Desk) (clock : ℕ) (list : List ℕ) (r : Swept) (list′ : Li
   entered-as i l =
       let e : Entered desk clock (entries n desk clock) i = each-due n desk clock i l in
       let same = same-entry i l in
-      record { place = e .place; host = e .host; address = same .1 ∙ e .address; due = e .due; job = same .0 ∙ e .job }
+      record { place = e .place; host = e .host; address = same .1 ∙ e .address; due = e .due; job = same .0 ∙ e .job; folder = same .2 ∙ e .folder }
 
   pub sweeps : Sweeping desk clock list r list′
   unfolding n es roomIn
@@ -335,9 +356,10 @@ single-more : (m : ℕ) (desk : Desk) (clock : ℕ) (past : List Event)
 unfolding afterAll answeredAll after eventOf expired
 single-more m desk clock past = (refl, refl)
 
-told-more : (job address : ℕ) (rest : List ℕ) (clock : ℕ) (past : List Event) → told (job ∷ address ∷ rest) clock past ≡ told rest clock (withdrawn job address clock ∷ past)
+told-more : (job address folder : ℕ) (rest : List ℕ) (clock : ℕ) (past : List Event)
+    → told (job ∷ address ∷ folder ∷ rest) clock past ≡ told rest clock (withdrawn job address folder clock ∷ past)
 unfolding told
-told-more job address rest clock past = refl
+told-more job address folder rest clock past = refl
 
 none-single : (desk : Desk) (clock : ℕ) (past : List Event)
     → (afterAll desk [] ≡ desk) × (answeredAll desk past [] ≡ past) × (told [] clock past ≡ past)
@@ -363,29 +385,30 @@ as-single-calls (suc n) desk clock past = ⊎-elim
     let k = s .0 in
     let next = withdrawnOn desk (161 + k) clock in
     let job = ticketAt desk k .asked .job in
+    let folder = ticketAt desk k .asked .folder in
     let one = expired-here desk clock k (s .1) (s .3) (s .2) in
-    let more = one-more n desk next clock job (161 + k) one in
+    let more = one-more n desk next clock job (161 + k) folder one in
     let call = rw one at (single-more (howMany n next clock) desk clock past) in
-    let rest = as-single-calls n next clock (withdrawn job (161 + k) clock ∷ past) in
-    rw (more .0, more .1, more .2, told-more job (161 + k) (entries n next clock) clock past) (rest .0 ∙ sym (call .0), rest .1 ∙ sym (call .1))) (step desk clock)
+    let rest = as-single-calls n next clock (withdrawn job (161 + k) folder clock ∷ past) in
+    rw (more .0, more .1, more .2, told-more job (161 + k) folder (entries n next clock) clock past) (rest .0 ∙ sym (call .0), rest .1 ∙ sym (call .1))) (step desk clock)
 
 -- ---- so the call itself: as many single expiries as it answers, no more than the list has room for and all that are due where there is more, and
 -- the list's first entries say what their callers saw
 
 -- the entries that were filled are the definition's
 filled : (desk : Desk) (clock : ℕ) (list : List ℕ) (r : Swept) (list′ : List ℕ) → ExpiresAll desk clock list r list′
-    → take (2 * r .count) list′ ≡ entries (roomIn list) desk clock
+    → take (3 * r .count) list′ ≡ entries (roomIn list) desk clock
 unfolding n es
 filled desk clock list r list′ p =
     rw (p .1, ← entries-long (roomIn list) desk clock, laid desk clock list r list′ p)
     (take-append-seam (entries (roomIn list) desk clock) (drop (length (entries (roomIn list) desk clock)) list))
 
 pub call-as-single : (desk : Desk) (clock : ℕ) (list : List ℕ) (r : Swept) (list′ : List ℕ) → ExpiresAll desk clock list r list′
-    → (r .count ≤ length list / 2)
-    × (r .count < length list / 2 → (place : ℕ) → place < 95 → IsDue clock (ticketAt (r .desk) place) → ⊥)
+    → (r .count ≤ length list / 3)
+    × (r .count < length list / 3 → (place : ℕ) → place < 95 → IsDue clock (ticketAt (r .desk) place) → ⊥)
     × (r .desk ≡ afterAll desk (replicate (r .count) (expires clock)))
-    × ((past : List Event) → told (take (2 * r .count) list′) clock past ≡ answeredAll desk past (replicate (r .count) (expires clock)))
-    × (drop (2 * r .count) list′ ≡ drop (2 * r .count) list)
+    × ((past : List Event) → told (take (3 * r .count) list′) clock past ≡ answeredAll desk past (replicate (r .count) (expires clock)))
+    × (drop (3 * r .count) list′ ≡ drop (3 * r .count) list)
     × (length list′ ≡ length list)
 call-as-single desk clock list r list′ p = (
   rw (p .1, ← room-is list) (count-within (roomIn list) desk clock),
@@ -398,23 +421,23 @@ call-as-single desk clock list r list′ p = (
 
 -- a night goes on with it: after any calls, a sweep, and any calls more
 pub night-swept : (calls : List Call) (clock : ℕ) (list : List ℕ) (r : Swept) (list′ : List ℕ) → ExpiresAll (afterAll freshDesk calls) clock list r list′
-    → (more : List Call) → Night (afterAll (r .desk) more) (answeredAll (r .desk) (told (take (2 * r .count) list′) clock (answeredAll freshDesk [] calls)) more)
+    → (more : List Call) → Night (afterAll (r .desk) more) (answeredAll (r .desk) (told (take (3 * r .count) list′) clock (answeredAll freshDesk [] calls)) more)
 night-swept calls clock list r list′ p more =
     let c = call-as-single (afterAll freshDesk calls) clock list r list′ p in
     let sweep : List Call = replicate (r .count) (expires clock) in
     let one = then-all calls sweep freshDesk [] in
     let two = then-all (calls ++ sweep) more freshDesk [] in
     let desk-is : afterAll freshDesk (calls ++ sweep) ≡ r .desk = one .0 ∙ sym (c .2) in
-    let past-is : answeredAll freshDesk [] (calls ++ sweep) ≡ told (take (2 * r .count) list′) clock (answeredAll freshDesk [] calls) = one .1 ∙ sym (c .3 (answeredAll freshDesk [] calls)) in
-    subst (λ (d : Desk). Night (afterAll d more) (answeredAll d (told (take (2 * r .count) list′) clock (answeredAll freshDesk [] calls)) more)) desk-is
+    let past-is : answeredAll freshDesk [] (calls ++ sweep) ≡ told (take (3 * r .count) list′) clock (answeredAll freshDesk [] calls) = one .1 ∙ sym (c .3 (answeredAll freshDesk [] calls)) in
+    subst (λ (d : Desk). Night (afterAll d more) (answeredAll d (told (take (3 * r .count) list′) clock (answeredAll freshDesk [] calls)) more)) desk-is
     (subst (λ (past : List Event). Night (afterAll (afterAll freshDesk (calls ++ sweep)) more) (answeredAll (afterAll freshDesk (calls ++ sweep)) past more)) past-is
     (subst (λ (past : List Event). Night (afterAll (afterAll freshDesk (calls ++ sweep)) more) past) (two .1)
     (subst (λ (d : Desk). Night d (answeredAll freshDesk [] ((calls ++ sweep) ++ more))) (two .0) (any-night ((calls ++ sweep) ++ more)))))
 
--- a half entry is no entry
-pub told-half : (job clock : ℕ) (past : List Event) → told (job ∷ []) clock past ≡ past
+-- a part of an entry is no entry
+pub told-part : (job address clock : ℕ) (past : List Event) → (told (job ∷ []) clock past ≡ past) × (told (job ∷ address ∷ []) clock past ≡ past)
 unfolding told
-told-half job clock past = refl
+told-part job address clock past = (refl, refl)
 
 over-none : (list : List ℕ) → over [] list ≡ list
 unfolding over
@@ -433,7 +456,7 @@ zero-as desk clock list r list′ n e p z =
 
 -- "0, for no room or nothing due, isn't a refusal.": the answer is the desk as it was and 0, and nothing else
 pub nothing-done : (desk : Desk) (clock : ℕ) (list : List ℕ) (r : Swept) (list′ : List ℕ) → ExpiresAll desk clock list r list′
-    → (length list < 2) ⊎ ((place : ℕ) → place < 95 → IsDue clock (ticketAt desk place) → ⊥) → (r ≡ record { desk = desk; count = 0 }) × (list′ ≡ list)
+    → (length list < 3) ⊎ ((place : ℕ) → place < 95 → IsDue clock (ticketAt desk place) → ⊥) → (r ≡ record { desk = desk; count = 0 }) × (list′ ≡ list)
 nothing-done desk clock list r list′ p why = ⊎-elim
     (λ short. zero-as desk clock list r list′ 0 (room-is list ∙ omega (arith, short)) p (none-entered desk clock, none-of desk clock, none-done desk clock))
     (λ none. zero-as desk clock list r list′ (roomIn list) refl p (nothing-more (roomIn list) desk clock (λ j l. told-false (decides-due clock (ticketAt desk j)) (none j l)))) why
@@ -446,14 +469,15 @@ pub sweeps-plainly : (desk : Desk) (clock : ℕ) (list : List ℕ) (r : Swept) (
     × (place < 95)
     × (addressOf list′ i ≡ 161 + place)
     × IsDue clock (ticketOn desk (161 + place))
-    × (jobOf list′ i ≡ ticketOn desk (161 + place) .asked .job))
+    × (jobOf list′ i ≡ ticketOn desk (161 + place) .asked .job)
+    × (folderOf list′ i ≡ ticketOn desk (161 + place) .asked .folder))
     × ((i : ℕ) → suc i < r .count → addressOf list′ i < addressOf list′ (suc i))
     × ((i : ℕ) → i < r .count → ticketOn (r .desk) (addressOf list′ i) ≡ withdrawnAt clock)
     × ((place : ℕ) → ((i : ℕ) → i < r .count → addressOf list′ i ≢ 161 + place) → ticketAt (r .desk) place ≡ ticketAt desk place)
     × (r .desk .turn ≡ desk .turn)
 sweeps-plainly desk clock list r list′ p =
     let s = sweeps desk clock list r list′ p in (
-      (λ i l. let e = s .each i l in (e .place, e .host, e .address, e .due, e .job)),
+      (λ i l. let e = s .each i l in (e .place, e .host, e .address, e .due, e .job, e .folder)),
       s .rise,
       s .rest,
       s .others,

@@ -1,13 +1,12 @@
 -- One pass over the addresses does what single expiries do: below the address that is looked at nothing is due any more, so the next
 -- single expiry would close the next due ticket from there on.
 -- Assumes nothing.
-use mathlib.Core.Path.{_≡_, refl, sym, ap, subst, _∙_}
+use mathlib.Core.Path.{_≡_, refl, sym, ap, ap₂, subst, _∙_}
 use mathlib.Core.Bool.{Bool, true, false, _&&_}
 use mathlib.Core.List.{List, [], _∷_}
 use mathlib.Core.Option.{none}
 use Prim.Native.Nat.{ℕ, zero, suc, _+_, _-_, _*_, _/_, _≤_, _<_}
 use native.Mathlib.Decide.{decLt}
-use native.Mathlib.Numerals.{add-one}
 use native.Mathlib.Omega.{arith}
 use borrow.Author.Count.{below-more}
 use borrow.Author.Tests.{lt-leb, eq-eqb}
@@ -44,7 +43,7 @@ unfolding duePlace
 none-here desk clock before = first-none (λ place. isDue clock (ticketAt desk place)) 95 before
 
 pub expired-here : (desk : Desk) (clock k : ℕ) → k < 95 → NoneUnder desk clock k → isDue clock (ticketAt desk k) ≡ true
-    → expired desk clock ≡ record { desk = withdrawnOn desk (161 + k) clock; answer = Closed (ticketAt desk k .asked .job) (161 + k) }
+    → expired desk clock ≡ record { desk = withdrawnOn desk (161 + k) clock; answer = Closed (ticketAt desk k .asked .job) (161 + k) (ticketAt desk k .asked .folder) }
 unfolding expired expireRefusal
 expired-here desk clock k h before due = rw (due-here desk clock k h before due, lt-leb 95 k h, on-host desk k)
 
@@ -87,7 +86,7 @@ pub record Going (desk₀ : Desk) (list₀ : List ℕ) (clock : ℕ) (swept : Sw
   pub same : length list ≡ length list₀
   pub desk : deskAfter (roomIn list₀ - swept .count) (swept .desk) clock ≡ deskAfter (roomIn list₀) desk₀ clock
   pub count : swept .count + howMany (roomIn list₀ - swept .count) (swept .desk) clock ≡ howMany (roomIn list₀) desk₀ clock
-  pub entered : overAt (2 * swept .count) (entries (roomIn list₀ - swept .count) (swept .desk) clock) list ≡ over (entries (roomIn list₀) desk₀ clock) list₀
+  pub entered : overAt (3 * swept .count) (entries (roomIn list₀ - swept .count) (swept .desk) clock) list ≡ over (entries (roomIn list₀) desk₀ clock) list₀
 
 pub start : (desk : Desk) (list : List ℕ) (clock : ℕ) → Going desk list clock (record { desk = desk; count = 0 }) 0 list
 start desk list clock =
@@ -102,17 +101,17 @@ start desk list clock =
     }
 
 -- one more of the single calls
-pub one-more : (m : ℕ) (desk next : Desk) (clock job address : ℕ) → expired desk clock ≡ record { desk = next; answer = Closed job address }
-    → (entries (suc m) desk clock ≡ job ∷ address ∷ entries m next clock) × (howMany (suc m) desk clock ≡ suc (howMany m next clock))
+pub one-more : (m : ℕ) (desk next : Desk) (clock job address folder : ℕ) → expired desk clock ≡ record { desk = next; answer = Closed job address folder }
+    → (entries (suc m) desk clock ≡ job ∷ address ∷ folder ∷ entries m next clock) × (howMany (suc m) desk clock ≡ suc (howMany m next clock))
     × (deskAfter (suc m) desk clock ≡ deskAfter m next clock)
 unfolding entries howMany deskAfter
-one-more m desk next clock job address e = rw e (refl, refl, refl)
+one-more m desk next clock job address folder e = rw e (refl, refl, refl)
 
 by-due : (desk₀ : Desk) (list₀ : List ℕ) (clock : ℕ) (swept : Swept) (k : ℕ) (list : List ℕ) → Going desk₀ list₀ clock swept k list → k < 95
     → swept .count < roomIn list₀ → (due : Bool) → isDue clock (ticketAt (swept .desk) k) ≡ due
-    → Going desk₀ list₀ clock (closedAt due swept k clock) (k + 1) (overAt (2 * swept .count) (enteredAt due swept k) list)
+    → Going desk₀ list₀ clock (closedAt due swept k clock) (k + 1) (overAt (3 * swept .count) (enteredAt due swept k) list)
 by-due desk₀ list₀ clock swept k list g h room false e =
-    rw (overAt-none (2 * swept .count) list)
+    rw (overAt-none (3 * swept .count) list)
     (record {
       passed = below-more _ k (g .passed) e;
       within = g .within;
@@ -125,19 +124,20 @@ by-due desk₀ list₀ clock swept k list g h room true e =
     let m = roomIn list₀ - (swept .count + 1) in
     let next = withdrawnOn (swept .desk) (161 + k) clock in
     let job = ticketAt (swept .desk) k .asked .job in
+    let folder = ticketAt (swept .desk) k .asked .folder in
     let left : roomIn list₀ - swept .count ≡ suc (roomIn list₀ - (swept .count + 1)) = omega arith in
-    let more = one-more m (swept .desk) next clock job (161 + k) (expired-here (swept .desk) clock k h (g .passed) e) in
-    let place : 2 * swept .count + 2 ≡ 2 * (swept .count + 1) = omega arith in
+    let more = one-more m (swept .desk) next clock job (161 + k) folder (expired-here (swept .desk) clock k h (g .passed) e) in
+    let place : 3 * swept .count + 3 ≡ 3 * (swept .count + 1) = omega arith in
     record {
       passed = none-on (swept .desk) clock k (g .passed);
       within = omega arith;
-      same = length-overAt (2 * swept .count) (job ∷ (161 + k) ∷ []) list ∙ g .same;
+      same = length-overAt (3 * swept .count) (job ∷ (161 + k) ∷ folder ∷ []) list ∙ g .same;
       desk = sym (more .2) ∙ (rw left at (g .desk));
       count = let c = rw left at (g .count) in omega (arith, c, more .1);
       entered =
-          ap (λ (i : ℕ). overAt i (entries m next clock) (overAt (2 * swept .count) (job ∷ (161 + k) ∷ []) list)) (sym place)
-          ∙ (overAt-append (2 * swept .count) (job ∷ (161 + k) ∷ []) (entries m next clock) list
-          ∙ (ap (λ (l : List ℕ). overAt (2 * swept .count) l list) (sym (more .0)) ∙ (rw left at (g .entered))));
+          ap (λ (i : ℕ). overAt i (entries m next clock) (overAt (3 * swept .count) (job ∷ (161 + k) ∷ folder ∷ []) list)) (sym place)
+          ∙ (overAt-append (3 * swept .count) (job ∷ (161 + k) ∷ folder ∷ []) (entries m next clock) list
+          ∙ (ap (λ (l : List ℕ). overAt (3 * swept .count) l list) (sym (more .0)) ∙ (rw left at (g .entered))));
     }
 
 pub going-on : {desk₀ : Desk} {list₀ : List ℕ} {clock : ℕ} {swept next : Swept} {k : ℕ} {list list′ : List ℕ} → Going desk₀ list₀ clock swept k list
@@ -158,7 +158,7 @@ ends : (desk₀ : Desk) (list₀ : List ℕ) (clock : ℕ) (swept : Swept) (k n 
 ends desk₀ list₀ clock swept k n list g e rest = (
   sym (rest .2) ∙ (rw e at (g .desk)),
   (let c = rw e at (g .count) in omega (arith, c, rest .1)),
-  (sym (overAt-none (2 * swept .count) list) ∙ (ap (λ (l : List ℕ). overAt (2 * swept .count) l list) (sym (rest .0)) ∙ (rw e at (g .entered)))),
+  (sym (overAt-none (3 * swept .count) list) ∙ (ap (λ (l : List ℕ). overAt (3 * swept .count) l list) (sym (rest .0)) ∙ (rw e at (g .entered)))),
 )
 
 pub full : {desk₀ : Desk} {list₀ : List ℕ} {clock : ℕ} {swept : Swept} {k : ℕ} {list : List ℕ} → Going desk₀ list₀ clock swept k list
@@ -186,24 +186,29 @@ cancel-due desk clock place due =
     both-left true b e = refl
     both-left false b e = e
 
-two-stored : (list : List ℕ) (k x y : ℕ) → k + 1 < length list → set (set list k x) (k + 1) y ≡ overAt k (x ∷ y ∷ []) list
-two-stored list k x y h =
-    sym (sym (overAt-set k x (y ∷ []) list (omega arith))
-    ∙ (sym (overAt-set (suc k) y [] (set list k x) (omega (arith, length-set list k x))) ∙ (overAt-none (suc (suc k)) (set (set list k x) (suc k) y) ∙ rw (add-one k))))
+three-stored : (list : List ℕ) (k x y z : ℕ) → k + 2 < length list → set (set (set list k x) (k + 1) y) (k + 2) z ≡ overAt k (x ∷ y ∷ z ∷ []) list
+three-stored list k x y z h =
+    sym (sym (overAt-set k x (y ∷ z ∷ []) list (omega arith))
+    ∙ (sym (overAt-set (suc k) y (z ∷ []) (set list k x) (omega (arith, length-set list k x)))
+    ∙ (sym (overAt-set (suc (suc k)) z [] (set (set list k x) (suc k) y) (omega (arith, length-set (set list k x) (suc k) y, length-set list k x)))
+    ∙ (overAt-none (suc (suc (suc k))) (set (set (set list k x) (suc k) y) (suc (suc k)) z)
+    ∙ ap₂ (λ (i j : ℕ). set (set (set list k x) i y) j z) (omega arith) (omega arith)))))
 
 pub looked-due : (before : Swept) (place clock : ℕ) (list : List ℕ) (due : Bool) (after : AfterClose) → due ≡ isDue clock (ticketAt (before .desk) place) → due ≡ true
-    → 2 * before .count + 1 < length list → Cancels (before .desk) (ticketAt (before .desk) place .asked .job) (161 + place) clock after
+    → 3 * before .count + 2 < length list → Cancels (before .desk) (ticketAt (before .desk) place .asked .job) (161 + place) clock after
     → LooksAt before place clock list (record { desk = after .desk; count = before .count + 1 })
-    (set (set list (2 * before .count) (ticketAt (before .desk) place .asked .job)) (2 * before .count + 1) (161 + place))
+    (set (set (set list (3 * before .count) (ticketAt (before .desk) place .asked .job)) (3 * before .count + 1) (161 + place)) (3 * before .count + 2)
+    (ticketAt (before .desk) place .asked .folder))
 looked-due before place clock list due after e t room p =
     let is : isDue clock (ticketAt (before .desk) place) ≡ true = sym e ∙ t in
     let closed : after .desk ≡ withdrawnOn (before .desk) (161 + place) clock = rw (cancel-due (before .desk) clock place is) at (p .1) in
-    rw (is, closed) (refl, two-stored list (2 * before .count) (ticketAt (before .desk) place .asked .job) (161 + place) room)
+    rw (is, closed)
+    (refl, three-stored list (3 * before .count) (ticketAt (before .desk) place .asked .job) (161 + place) (ticketAt (before .desk) place .asked .folder) room)
 
 pub looked-not : (before : Swept) (place clock : ℕ) (list : List ℕ) (due : Bool) → due ≡ isDue clock (ticketAt (before .desk) place) → due ≡ false
     → LooksAt before place clock list before list
-looked-not before place clock list due e t = rw (sym e ∙ t) (refl, sym (overAt-none (2 * before .count) list))
+looked-not before place clock list due e t = rw (sym e ∙ t) (refl, sym (overAt-none (3 * before .count) list))
 
-pub room-is : (list : List ℕ) → roomIn list ≡ length list / 2
+pub room-is : (list : List ℕ) → roomIn list ≡ length list / 3
 unfolding roomIn
 room-is list = refl

@@ -1,5 +1,5 @@
 -- Expiring everything that is due: "One call with a lent list of job and address pairs should do single expiries at one clock reading
--- until the list is full or nothing is due."
+-- until the list is full or nothing is due." 02, #110: "#107's list holds job, address and folder."
 -- Assumes nothing.
 use mathlib.Core.Path.{_≡_}
 use mathlib.Core.Bool.{Bool, true, false}
@@ -25,13 +25,13 @@ expired desk clock =
       answer = closeAnswer (expireRefusal desk clock) (ticketOn desk (161 + duePlace desk clock)) (161 + duePlace desk clock);
     }
 
--- one entry for a ticket that was closed, its job and its address, and then the others; none from where nothing is due on
+-- one entry for a ticket that was closed, its job, its address and its folder, and then the others; none from where nothing is due on
 abbrev pub listed : Closing → List ℕ → List ℕ
-listed (Closed job address) others = job ∷ address ∷ others
+listed (Closed job address folder) others = job ∷ address ∷ folder ∷ others
 listed (Refused f) others = []
 
 abbrev pub counted : Closing → ℕ → ℕ
-counted (Closed job address) others = suc others
+counted (Closed job address folder) others = suc others
 counted (Refused f) others = 0
 
 -- "State and list are what the single calls would give in that order": of at most so many calls at one clock, what they close, how many
@@ -48,16 +48,19 @@ unfoldable pub deskAfter : ℕ → Desk → ℕ → Desk
 deskAfter zero desk clock = desk
 deskAfter (suc n) desk clock = deskAfter n (expired desk clock .desk) clock
 
--- how many entries a list has room for: two numbers each, and a last half entry is none
+-- how many entries a list has room for: three numbers each, and what is left of a last one is none
 unfoldable pub roomIn : List ℕ → ℕ
-roomIn list = length list / 2
+roomIn list = length list / 3
 
--- the job and the address of the entry at i, from 0 on
+-- the job, the address and the folder of the entry at i, from 0 on
 unfoldable pub jobOf : List ℕ → ℕ → ℕ
-jobOf list i = getD list (2 * i) 0
+jobOf list i = getD list (3 * i) 0
 
 unfoldable pub addressOf : List ℕ → ℕ → ℕ
-addressOf list i = getD list (2 * i + 1) 0
+addressOf list i = getD list (3 * i + 1) 0
+
+unfoldable pub folderOf : List ℕ → ℕ → ℕ
+folderOf list i = getD list (3 * i + 2) 0
 
 -- ---- the contract: "and unused entries stay. It answers how many"
 
@@ -70,7 +73,8 @@ ExpiresAll desk clock list r list′ =
 -- ---- what the callers saw of it, in the events of a night, the latest first
 
 unfoldable pub told : List ℕ → ℕ → List Event → List Event
-told (job ∷ address ∷ rest) clock past = told rest clock (withdrawn job address clock ∷ past)
+told (job ∷ address ∷ folder ∷ rest) clock past = told rest clock (withdrawn job address folder clock ∷ past)
+told (job ∷ address ∷ []) clock past = past
 told (job ∷ []) clock past = past
 told [] clock past = past
 
@@ -81,10 +85,10 @@ closedAt true before place clock = record { desk = withdrawnOn (before .desk) (1
 closedAt false before place clock = before
 
 abbrev pub enteredAt : Bool → Swept → ℕ → List ℕ
-enteredAt true before place = ticketAt (before .desk) place .asked .job ∷ (161 + place) ∷ []
+enteredAt true before place = ticketAt (before .desk) place .asked .job ∷ (161 + place) ∷ ticketAt (before .desk) place .asked .folder ∷ []
 enteredAt false before place = []
 
 abbrev pub LooksAt : Swept → ℕ → ℕ → List ℕ → Swept → List ℕ → Type 0
 LooksAt before place clock list r list′ =
     (r ≡ closedAt (isDue clock (ticketAt (before .desk) place)) before place clock)
-    × (list′ ≡ overAt (2 * before .count) (enteredAt (isDue clock (ticketAt (before .desk) place)) before place) list)
+    × (list′ ≡ overAt (3 * before .count) (enteredAt (isDue clock (ticketAt (before .desk) place)) before place) list)

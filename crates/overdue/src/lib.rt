@@ -12,12 +12,13 @@ pub struct Swept {
 }
 
 // Closes the due tickets from the lowest address up, until none is left or the list is full. Each
-// entry is two numbers, the job and the address of the ticket that was closed, from the list's first
-// place on; the rest of the list stays. The addresses rest from the clock on. None is no refusal.
+// entry is three numbers, the job, the address and the folder of the ticket that was closed, from the
+// list's first place on; the rest of the list stays. The addresses rest from the clock on. None is no
+// refusal.
 pub fn expire_all(desk: Desk, clock: u32, list: &mut [u32]) -> Swept
     ensures { λ r. ⌜ ExpiresAll desk clock (now (list .entry)) r (now (list .exit)) ⌝ }
 {
-    let room = list.len() / 2;
+    let room = list.len() / 3;
     let mut swept = Swept { desk, count: 0 };
     let mut k: u8 = 0;
     while k < 95 {
@@ -32,7 +33,7 @@ pub fn expire_all(desk: Desk, clock: u32, list: &mut [u32]) -> Swept
 
 // Closes the ticket at a place if it is due, and enters it.
 fn look_at(before: Swept, place: u8, clock: u32, list: &mut [u32]) -> Swept
-    requires { ⌜ (place < 95) × (before .count < length (now list) / 2) ⌝ }
+    requires { ⌜ (place < 95) × (before .count < length (now list) / 3) ⌝ }
     ensures { λ r. ⌜ LooksAt before place clock (now (list .entry)) r (now (list .exit)) ⌝ }
 {
     let desk = before.desk;
@@ -43,9 +44,10 @@ fn look_at(before: Swept, place: u8, clock: u32, list: &mut [u32]) -> Swept
         let address = 161 + place;
         let after = desk::cancel(desk, job, address, clock);
         let next = after.desk;
-        let entry = 2 * before.count;
+        let entry = 3 * before.count;
         list[entry] = job;
         list[entry + 1] = address as u32;
+        list[entry + 2] = ticket.asked.folder;
         return Swept {
             desk: next,
             count: before.count + 1,

@@ -44,30 +44,31 @@ fn sweep(d: Desk, clock: u32, entries: u64, list: &mut [u32], out: &mut [u8]) ->
 fn numbers(entries: u64, list: &[u32]) -> usize
     ensures { λ r. ⌜ r ≤ length (now (list .entry)) ⌝ }
 {
-    let n = (entries % 1000 * 2) as usize;
+    let n = (entries % 1000 * 3) as usize;
     if n < list.len() { n } else { list.len() }
 }
 
 // The entries, `.` for one that stayed; `-` for a list of none.
 fn show(list: &[u32], out: &mut [u8], from: usize) -> usize {
-    if list.len() < 2 {
+    if list.len() < 3 {
         return answers::text(out, from, b"-");
     }
-    let n = list.len() / 2;
+    let n = list.len() / 3;
     let mut at = from;
     let mut i = 0;
     while i < n {
-        at = entry(list[2 * i], list[2 * i + 1], out, from, at);
+        at = entry(list[3 * i], list[3 * i + 1], list[3 * i + 2], out, from, at);
         i += 1;
     }
     at
 }
 
-fn entry(job: u32, address: u32, out: &mut [u8], from: usize, at: usize) -> usize {
+fn entry(job: u32, address: u32, folder: u32, out: &mut [u8], from: usize, at: usize) -> usize {
     let next = answers::comma(out, from, at);
     if address == UNUSED {
         return answers::text(out, next, b".");
     }
     let named = answers::number(out, next, job as u64);
-    answers::field(out, named, b":", address as u64)
+    let placed = answers::field(out, named, b":", address as u64);
+    answers::field(out, placed, b":", folder as u64)
 }

@@ -53,6 +53,9 @@ pub use Rattle.desk.proofs.Laws.{fresh-is, fresh-opens, opened-given, request-w
 pub use Rattle.desk.proofs.Laws.{booked-right, cancelled-right, expired-right, unread-passed-up, under-hosts}
 pub use Rattle.desk.proofs.Laws.{given-plainly, books-plainly, closed-plainly, expired-plainly}
 pub use Rattle.desk.proofs.Laws.{look-open, look-withdrawn, look-nothing}
+-- 02, #110: what holds a folder, and that 75 is told exactly there
+pub use Rattle.desk.proofs.Folder.{held-on, folder-apart, held-exactly, only-held, no-folder}
+pub use Rattle.ticket.proofs.Laws.{tells-barred}
 -- 02, #108: how far an opening looked, and what its refusals say of that
 pub use Rattle.desk.proofs.Count.{opened-count, opened-considered, refused-count, no-room-considered, same-with-room, considered-plainly, one-up}
 pub use Rattle.ticket.proofs.Laws.{read-answered-by, write-answered-by, zero-carried-by, own-carried-by, other-carried-by}
@@ -69,20 +72,21 @@ pub use Rattle.nights.proofs.Looked.{turn-within-then, considered-then, no-room
 pub use Rattle.nights.proofs.Plainly.{among-plainly, each-plainly, passed-plainly, counted-one, counted-none, count-plainly, others-are, last-there, last-elsewhere}
 -- 02, #102: after a cancel or an expiry the address rests, and a late answer is told as one; both before the address is given again
 pub use Rattle.nights.proofs.Late.{kept-then, rested-before-again, late-refused, nothing-booked, late-exactly, no-ticket-exactly}
--- ---- 02, #109: lanes in front of the desk. A request is opened within 16 times p grants that open something, once, as it was asked
+-- ---- 02, #109: lanes in front of the desk. A request is opened, or by #110 taken out, within 16 times p grants that do either, once, as it
+-- was asked
 pub use Rattle.lanes.proofs.Laws.{fresh-is as lanes-fresh-is, join-refusal-keeps, grant-refusal-keeps, withdraw-refusal-keeps}
 pub use Rattle.lanes.proofs.Ranking.{passed-empty, next-waits, own-is, is-own, for-own, for-empty}
 pub use Rattle.turns.proofs.Orderly.{fresh-orderly, any-orderly}
-pub use Rattle.turns.proofs.Fair.{fair, opened-within, all-calls}
-pub use Rattle.turns.proofs.Fate.{opened-by, withdrawn-by, ended-in, opened-as-asked}
-pub use Rattle.turns.proofs.Calls.{joined-right, granted-right, withdrawn-right}
-pub use Rattle.turns.proofs.Plainly.{less-plainly, waiting-first, waiting-joined, waiting-opened, waiting-elsewhere, waiting-withdrew, right-plainly}
-pub use Rattle.turns.proofs.Plainly.{orderly-plainly, in-turn-plainly, counts-plainly, opened-by-plainly, ended-plainly}
+pub use Rattle.turns.proofs.Fair.{fair, turn-within, all-calls}
+pub use Rattle.turns.proofs.Fate.{turn-by, withdrawn-by, ended-in, turn-as-asked}
+pub use Rattle.turns.proofs.Calls.{joined-right, granted-right, taken-right, withdrawn-right}
+pub use Rattle.turns.proofs.Plainly.{less-plainly, waiting-first, waiting-joined, waiting-opened, waiting-taken, waiting-elsewhere, waiting-withdrew, right-plainly}
+pub use Rattle.turns.proofs.Plainly.{orderly-plainly, in-turn-plainly, counts-plainly, opened-by-plainly, taken-by-plainly, ended-plainly}
 pub use Rattle.turns.proofs.Plainly.{all-after-plainly, all-answered-plainly, counted-plainly, fate-plainly, grant-counts, queue-plainly, kept-plainly}
-pub use Rattle.turns.proofs.Plainly.{desk-after, reaches-plainly, all-reach-plainly, saw-plainly, numbers-plainly}
-pub use Rattle.turns.proofs.Plainly.{joined-at-plainly, granted-at-plainly, withdrawn-at-plainly}
-pub use Rattle.lanes.proofs.Laws.{granted-count, none-free-count, not-asked-count}
-pub use Rattle.turns.proofs.Reached.{first-reached, fourth-reached}
+pub use Rattle.turns.proofs.Plainly.{desk-after, reaches-plainly, all-reach-plainly, saw-plainly, numbers-first, numbers-there, numbers-others, numbers-stay}
+pub use Rattle.turns.proofs.Plainly.{joined-at-plainly, turn-at-plainly, granted-at-plainly, taken-out-plainly, withdrawn-at-plainly}
+pub use Rattle.lanes.proofs.Laws.{granted-count, none-free-count, not-asked-count, taken-out-keeps, taken-number, held-taken-out}
+pub use Rattle.turns.proofs.Reached.{first-reached, fourth-reached, taken-reached}
 pub use Rattle.turns.proofs.Laws.{any-turns, each-once, at-desk, any-night-behind, joins-after, grants-after, withdraws-after}
 -- ---- 02, #104: the filter box asks its module, through the desk, as its name says, and goes by what the desk answered
 pub use Rattle.varia.proofs.Laws.{edge-registers, set-telegram, attenuate-telegram, monitor-telegram, status-telegram}
@@ -99,7 +103,7 @@ pub use Rattle.evenings.proofs.Plainly.{short-known, long-known, known-in-order
 -- ---- 02, #107: everything due is expired as by single calls, and the nights count each of its closings
 pub use Rattle.overdue.proofs.Laws.{expired-is, first-entry, entry-on, sweeps, as-single-calls}
 pub use Rattle.overdue.proofs.Laws.{each-due, entries-rise, others-stay, each-rests, turn-stays, count-within, nothing-left, entries-long}
-pub use Rattle.overdue.proofs.Laws.{call-as-single, night-swept, nothing-done, sweeps-plainly, told-half}
+pub use Rattle.overdue.proofs.Laws.{call-as-single, night-swept, nothing-done, sweeps-plainly, told-part}
 -- ---- 02, #106: a settings sheet: "Equal settings give equal sheets and the reverse."
 pub use Rattle.sheet.proofs.Written.{sheet-right, held-of-sheet, held-writable, sheet-most, same-sheet, same-settings}
 pub use Rattle.sheet.proofs.Right.{sheet-of-held}
@@ -117,7 +121,7 @@ pub fitting-booked : (desk : Desk) (frame room : List ℕ) (r : AfterReply) (roo
     → t .source ≡ ticketOn desk (t .destination) .asked .unit
     → KindFits (ticketOn desk (t .destination) .asked .sort) (t .sort)
     → RegisterFits (ticketOn desk (t .destination) .asked .register) (t .sort) (t .register)
-    → (r .answer ≡ Booked (ticketOn desk (t .destination) .asked .job) (t .destination) (t .sort) (t .size))
+    → (r .answer ≡ Booked (ticketOn desk (t .destination) .asked .job) (t .destination) (t .sort) (t .size) (ticketOn desk (t .destination) .asked .folder))
     × ClosedAlone desk (t .destination) noTicket (r .desk)
     × (room′ ≡ over (dataIn frame) room)
 unfolding replyRefusal bookRefusal fitRows IsWithdrawn IsNoTicket IsOtherModule IsOtherKind IsOtherRegister

@@ -223,7 +223,7 @@ module _ (desk : Desk) (sound : SoundDesk desk) (asked : Request) (bytes : List 
       -- a request opened at the desk, taken by a bench at that module's address with room, gives a reply that the desk books on that very
       -- ticket, while the ticket stands, whatever else was opened and closed since
       pub booked-there : ticketOn desk₂ address ≡ ticket
-          → (b .answer ≡ Booked (asked .job) address (deed .sort) (deed .size))
+          → (b .answer ≡ Booked (asked .job) address (deed .sort) (deed .size) (asked .folder))
           × ClosedAlone desk₂ address noTicket (b .desk)
           × (room₂′ ≡ over (bytesOf (deed .size) (deed .value)) room₂)
       booked-there on =
@@ -248,14 +248,14 @@ module _ (desk : Desk) (sound : SoundDesk desk) (asked : Request) (bytes : List 
 
       -- for a read with the right the data are the register's bytes
       pub read-booked : ticketOn desk₂ address ≡ ticket → asked .sort ≡ 4 → Held bench (asked .register) → HasRight (named bench (asked .register)) 1
-          → (b .answer ≡ Booked (asked .job) address 8 (sizeOf (named bench (asked .register) .kind)))
+          → (b .answer ≡ Booked (asked .job) address 8 (sizeOf (named bench (asked .register) .kind)) (asked .folder))
           × ClosedAlone desk₂ address noTicket (b .desk)
           × (room₂′ ≡ over (bytesOf (sizeOf (named bench (asked .register) .kind)) (named bench (asked .register) .value)) room₂)
       read-booked on is held-there right = rw (datagram-of is held-there right) at (booked-there on)
 
     -- and so at the desk that opened it, at once
     pub end-to-end : (room₂ : List ℕ) → 8 ≤ length room₂ → (b : AfterReply) (room₂′ : List ℕ) → Replies (o .desk) reply room₂ b room₂′
-        → (b .answer ≡ Booked (asked .job) address (deed .sort) (deed .size))
+        → (b .answer ≡ Booked (asked .job) address (deed .sort) (deed .size) (asked .folder))
         × ClosedAlone (o .desk) address noTicket (b .desk)
         × (room₂′ ≡ over (bytesOf (deed .size) (deed .value)) room₂)
     end-to-end room₂ enough b room₂′ replies = booked-there (o .desk) room₂ enough b room₂′ replies ticket-stands

@@ -1,3 +1,4 @@
+pub mod Accident
 pub mod Table
 pub mod DemandOne
 pub mod DemandTwo

@@ -92,11 +92,11 @@ open-refused (opening.Opened address m) n e = clash (cc)
 
 book-refused : (a : Booking) (n : ℕ) → bookTold a ≡ some n → (f : Fault) × (a ≡ booking.Refused f)
 book-refused (booking.Refused f) n e = (f, refl)
-book-refused (booking.Booked job address sort m) n e = clash (cc)
+book-refused (booking.Booked job address sort m folder) n e = clash (cc)
 
 close-refused : (a : Closing) (n : ℕ) → closeTold a ≡ some n → (f : Fault) × (a ≡ closing.Refused f)
 close-refused (closing.Refused f) n e = (f, refl)
-close-refused (closing.Closed job address) n e = clash (cc)
+close-refused (closing.Closed job address folder) n e = clash (cc)
 
 build-refused : (a : Building) (n : ℕ) → buildTold a ≡ some n → (f : silence.Fault) × (a ≡ building.Refused f)
 build-refused (building.Refused f) n e = (f, refl)

@@ -1,4 +1,4 @@
--- "Numbers for what can't be done": the numbers, of the desk's 15, 17 to 20 and 61, each by inputs that its row alone refuses, and the next that is
+-- "Numbers for what can't be done": the numbers, of the desk's 15, 17 to 20, 61 and 75, each by inputs that its row alone refuses, and the next that is
 -- not refused, with what the definitions tell there.
 -- Assumes nothing.
 use mathlib.Core.Bool.{Bool, true, _&&_}
@@ -21,10 +21,11 @@ use Rattle.bench.specs.Register.{noRegister}
 use Rattle.bench.specs.Take.{takeRefusal, takeAnswer, takeTold}
 use Rattle.bench.specs.declared.Bench.{Bench}
 use Rattle.receiver.specs.Receiver.{outsideAt, stepOf, stepTold}
-use Rattle.ticket.specs.Ticket.{withdrawnAt}
+use Rattle.request.specs.declared.Request.{Request}
+use Rattle.ticket.specs.Ticket.{newTicket, withdrawnAt}
 use Rattle.desk.specs.Close.{withdrawnOn}
 use Rattle.desk.specs.Desk.{freshDesk, ticketOn}
-use Rattle.desk.specs.Open.{openRefusal, openAnswer, openTold, givenPlace}
+use Rattle.desk.specs.Open.{openRefusal, openAnswer, openTold, givenPlace, withTicket}
 use Rattle.desk.specs.Reply.{replyRefusal, bookAnswer, bookTold}
 use Rattle.desk.specs.declared.Desk.{Desk}
 use Rattle.telegram.specs.Read.{fieldsIn}
@@ -37,10 +38,11 @@ use Rattle.varia.specs.declared.Out.{Out}
 use Rattle.varia.specs.declared.Out.the-variants as out
 use Rattle.varia.specs.declared.Pass.{Pass}
 use Rattle.varia.specs.declared.Pass.the-variants.{Short, Long}
-use Rattle.lanes.specs.Grant.{grantRefusal}
+use Rattle.lanes.specs.Grant.{grantRefusal, grantTold}
 use Rattle.lanes.specs.Join.{joinRefusal, joinAnswer, joinTold}
 use Rattle.lanes.specs.Lanes as lanes
 use Rattle.lanes.specs.Withdraw.{withdrawRefusal, withdrawAnswer, withdrawTold}
+use Rattle.lanes.specs.declared.Granting.the-variants.{TakenOut}
 use Rattle.lanes.specs.declared.Lanes.{Lanes}
 use Rattle.sheet.specs.Sheet.{countIn, recordsIn, checkRefusal, checkAnswer, checkTold, readRefusal}
 use Rattle.sheet.specs.Sheet as sheet
@@ -102,6 +104,19 @@ restingDesk clock = record { turn = 0; tickets = replicate 95 (withdrawnAt clock
 abbrev pub opening : Desk → ℕ → Option ℕ
 opening desk clock = openTold (openAnswer (openRefusal desk request [] clock 494) (161 + givenPlace desk clock) 8)
 
+-- a request for no folder
+abbrev pub noFolder : Request
+noFolder = record { job = 7; unit = 15; sort = 4; register = 102; wait = 1000; folder = 0 }
+
+-- a desk on which every address has a ticket of job 7 for folder 3
+abbrev pub fullDesk : Desk
+fullDesk = record { turn = 0; tickets = replicate 95 (newTicket request 0) }
+
+-- a job's opening on a folder, with a waiting time
+abbrev pub openingOn : Desk → ℕ → ℕ → ℕ → Option ℕ
+openingOn desk job folder wait =
+    openTold (openAnswer (openRefusal desk (record { job = job; unit = 15; sort = 4; register = 102; wait = wait; folder = folder }) [] 40 494) 161 8)
+
 abbrev pub replying : Desk → List ℕ → Option ℕ
 replying desk frame = bookTold (bookAnswer (replyRefusal desk frame 240) (ticketOn desk 161) (fieldsIn frame))
 
@@ -124,7 +139,7 @@ lanesWith n = record { last = 15; lanes = replicate 16 (record { size = n; waiti
 
 abbrev pub joining : Lanes → ℕ → Option ℕ
 joining all job =
-    joinTold (joinAnswer (joinRefusal all (record { job = job; unit = request .unit; sort = request .sort; register = request .register; wait = request .wait }) []) all 0)
+    joinTold (joinAnswer (joinRefusal all (record { job = job; unit = request .unit; sort = request .sort; register = request .register; wait = request .wait; folder = request .folder }) []) all 0)
 
 abbrev pub granting : Lanes → ℕ → Option ℕ
 granting all room = raised lanes.faultNumber (grantRefusal all room)
@@ -223,6 +238,17 @@ refusals =
     ∷ gives (opening (restingDesk 40) 39) 0
     ∷ gives (opening (restingDesk 4294966796) 499) 15
     ∷ gives (opening (restingDesk 4294966796) 500) 0
+    ∷ gives (openingOn askedDesk 8 3 1) 75
+    ∷ gives (openingOn askedDesk 8 3 0) 14
+    ∷ gives (openingOn askedDesk 7 3 1) 0
+    ∷ gives (openingOn askedDesk 8 4 1) 0
+    ∷ gives (openingOn askedDesk 8 0 1) 0
+    ∷ gives (openingOn (withTicket freshDesk 0 (newTicket noFolder 0)) 8 0 1) 0
+    ∷ gives (openingOn usedDesk 8 3 1) 0
+    ∷ gives (openingOn (withdrawnOn askedDesk 161 40) 8 3 1) 0
+    ∷ gives (openingOn fullDesk 8 3 1) 75
+    ∷ gives (openingOn fullDesk 8 4 1) 15
+    ∷ gives (openingOn fullDesk 7 3 1) 15
     ∷ gives (replying askedDesk reply) 0
     ∷ gives (replying freshDesk reply) 17
     ∷ gives (replying usedDesk reply) 17
@@ -240,6 +266,7 @@ refusals =
     ∷ gives (granting (lanesWith 1) 493) 73
     ∷ gives (granting lanes.freshLanes 494) 74
     ∷ gives (granting (lanesWith 1) 494) 0
+    ∷ gives (grantTold (TakenOut 7)) 75
     ∷ gives (withdrawing lanes.freshLanes 7 1) 55
     ∷ gives (withdrawing (lanesWith 2) 8 1) 55
     ∷ gives (withdrawing (lanesWith 2) 7 0) 55

@@ -66,9 +66,9 @@ oddly = 13 ∷ 94 ∷ 65 ∷ 0xA2 ∷ 0x04 ∷ 0x66 ∷ 0x65 ∷ 0xEC ∷ 10 ∷
 abbrev pub sampled : List ℕ
 sampled = 13 ∷ 162 ∷ 15 ∷ 3 ∷ 48 ∷ 72 ∷ 47 ∷ 10 ∷ 13 ∷ 10 ∷ 13 ∷ 5 ∷ []
 
--- a job's read of register 102 of module 15, and the reply of module 10 to its address
+-- a job's read of register 102 of module 15, for folder 3, and the reply of module 10 to its address
 abbrev pub request : Request
-request = record { job = 7; unit = 15; sort = 4; register = 102; wait = 1000 }
+request = record { job = 7; unit = 15; sort = 4; register = 102; wait = 1000; folder = 3 }
 
 abbrev pub crossed : Fields
 crossed = record { destination = 161; source = 10; sort = 8; register = 102; size = 2 }

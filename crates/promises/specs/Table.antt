@@ -66,7 +66,7 @@ holds (leaves bytes is) = eqb (remainderOf bytes) is
 holds (becomes message frame) = sameBytes (framed message) frame
 holds (refused frame number) = refusedWith (readFrame frame 240) number
 holds (reads kind bytes value) = isValue (readValue kind bytes 0) value
-holds (due opened wait clock is) = sameBool (isDue clock (newTicket (record { job = 1; unit = 1; sort = 4; register = 0; wait = wait }) opened)) is
+holds (due opened wait clock is) = sameBool (isDue clock (newTicket (record { job = 1; unit = 1; sort = 4; register = 0; wait = wait; folder = 0 }) opened)) is
 holds (toggled value mask is) = eqb (toggleBits value mask) is
 
 unfoldable pub allHold : List Fact → Bool

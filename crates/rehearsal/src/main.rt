@@ -252,7 +252,7 @@ fn answer_desk(made: Made, w: Words, line: &[u8], out: &mut [u8]) -> Said {
 
 // Everything due expires. The filter box is told of each closing.
 fn answer_all(made: Made, w: Words, line: &[u8], out: &mut [u8]) -> Said {
-    let mut closed = [UNUSED; 2 * ENTRIES];
+    let mut closed = [UNUSED; 3 * ENTRIES];
     let before = made.desk;
     let swept = overdue_calls::answer(before, w, line, &mut closed, out);
     let after = swept.desk;

@@ -9,13 +9,15 @@ ghost use Rattle.request.specs.Request.{Asks, Numbers, oneTo, isRequest,
 ghost use mathlib.Core.Path.{_≡_};
 
 // What a job asks of a module, but for the data: `unit` is the module, `sort` the type of the
-// telegram, `wait` how long its reply is waited for, in milliseconds.
+// telegram, `wait` how long its reply is waited for, in milliseconds, `folder` where the job files
+// what comes, 0 for nowhere.
 pub struct Request {
     pub job: u32,
     pub unit: u8,
     pub sort: u8,
     pub register: u8,
     pub wait: u32,
+    pub folder: u32,
 }
 
 // Why a request may not be sent.

@@ -17,6 +17,7 @@ const ODD: Ticket = Ticket {
         sort: 8,
         register: 48,
         wait: 0,
+        folder: 6,
     },
     opened: 0,
     withdrawn: true,
@@ -25,7 +26,7 @@ const ODD: Ticket = Ticket {
 
 fn main() {
     desks();
-    halves();
+    parts();
     no_kind();
     twice();
 }
@@ -72,24 +73,24 @@ fn desks() {
     dump(d);
 }
 
-// All 95 tickets are due at once, and the list has no room, half an entry, one and a half, and two
-// and a half: the last half stays.
-fn halves() {
+// All 95 tickets are due at once, and the list has no room, part of an entry, one and a part, and two
+// and a part: the last part stays.
+fn parts() {
     let due = Desk {
         turn: 0,
         tickets: [ODD; 95],
     };
     sweep(due, 0);
-    sweep(due, 1);
-    sweep(due, 3);
-    sweep(due, 5);
+    sweep(due, 2);
+    sweep(due, 4);
+    sweep(due, 8);
 }
 
-// Expires what is due, with the first so many of five numbers as its list, and writes them all.
+// Expires what is due, with the first so many of eight numbers as its list, and writes them all.
 fn sweep(desk: Desk, numbers: usize) {
     let mut out = [0u8; 256];
-    let mut list = [7u32; 5];
-    let n = numbers % 6;
+    let mut list = [7u32; 8];
+    let n = numbers % 9;
     let swept = overdue::expire_all(desk, 0, &mut list[0..n]);
     let told = [
         swept.count as u64,
@@ -98,8 +99,11 @@ fn sweep(desk: Desk, numbers: usize) {
         wide(list[2]),
         wide(list[3]),
         wide(list[4]),
+        wide(list[5]),
+        wide(list[6]),
+        wide(list[7]),
     ];
-    let at = answers::form(&mut out, b"n=# list=#,#,#,#,#", &told);
+    let at = answers::form(&mut out, b"n=# list=#,#,#,#,#,#,#,#", &told);
     say(&mut out, at);
 }
 

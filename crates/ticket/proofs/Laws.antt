@@ -19,6 +19,7 @@ use Rattle.telegram.specs.declared.Fields.{Fields}
 use Rattle.ticket.specs.Due.{age, IsDue, isDue, TellsDue}
 use Rattle.ticket.specs.Fit.{KindFits, RegisterFits, IsWithdrawn, IsNoTicket, IsOtherModule, IsOtherKind, IsOtherRegister, fitRows, kindFits, registerFits}
 use Rattle.ticket.specs.Fit.{fitTests, fitRefusal, fitAnswer, fitTold, faultNumber, Judges, Numbers, typesThat}
+use Rattle.ticket.specs.Folder.{Bars, isBarred, TellsBarred}
 use Rattle.ticket.specs.Rest.{Rests, isResting, Free, isFree, TellsFree}
 use Rattle.ticket.specs.Ticket.{Open, withdrawnAt}
 use Rattle.ticket.specs.declared.Ticket.{Ticket}
@@ -208,6 +209,12 @@ clock-wraps ticket live opened wait =
 pub decides-due : (clock : ℕ) (ticket : Ticket) → Decides (isDue clock ticket) (IsDue clock ticket)
 decides-due clock ticket = decides-and (decides-set (ticket .live)) (decides-le (ticket .asked .wait) (age clock (ticket .opened)))
 
+pub decides-barred : (job folder : ℕ) (ticket : Ticket) → Decides (isBarred job folder ticket) (Bars job folder ticket)
+decides-barred job folder ticket = record { so = λ e. (both .so e .0, both .so e .1 .0, both .so e .1 .1); not-so = λ e b. both .not-so e (b .0, (b .1, b .2)) }
+  where
+    both : Decides (isBarred job folder ticket) ((ticket .live ≡ true) × ((ticket .asked .folder ≡ folder) × (ticket .asked .job ≢ job)))
+    both = decides-and (decides-set (ticket .live)) (decides-and (decides-eq (ticket .asked .folder) folder) (decides-not (decides-eq (ticket .asked .job) job)))
+
 -- what wrapping subtraction gives is the age
 pub age-is : (clock since r : ℕ) → (r + since) % 2 ^ 32 ≡ clock → r < 2 ^ 32 → since < 2 ^ 32 → r ≡ age clock since
 unfolding age
@@ -243,7 +250,7 @@ set-back-free closed clock hc h near = (refl, λ rests. omega (arith, rests .1, 
 pub number-is : (f : Fault) (r : ℕ) → Numbers f r → r ≡ faultNumber f
 number-is f r p = p
 
--- what `is_free` and `is_due` tell, said out
+-- what `is_free`, `is_due` and `bars` tell, said out
 pub tells-free : (ticket : Ticket) (clock : ℕ) (r : Bool) → TellsFree ticket clock r
     → (r ≡ true) ↔ ((ticket .live ≡ false) × ((ticket .withdrawn ≡ true) × (age clock (ticket .closed) < 1000) → ⊥))
 tells-free ticket clock r p = (λ e. decides-free clock ticket .so (sym p ∙ e), λ free. p ∙ told-true (decides-free clock ticket) free)
@@ -251,6 +258,11 @@ tells-free ticket clock r p = (λ e. decides-free clock ticket .so (sym p ∙ e)
 pub tells-due : (ticket : Ticket) (clock : ℕ) (r : Bool) → TellsDue ticket clock r
     → (r ≡ true) ↔ ((ticket .live ≡ true) × (ticket .asked .wait ≤ age clock (ticket .opened)))
 tells-due ticket clock r p = (λ e. decides-due clock ticket .so (sym p ∙ e), λ due. p ∙ told-true (decides-due clock ticket) due)
+
+pub tells-barred : (ticket : Ticket) (job folder : ℕ) (r : Bool) → TellsBarred ticket job folder r
+    → (r ≡ true) ↔ ((ticket .live ≡ true) × (ticket .asked .folder ≡ folder) × (ticket .asked .job ≢ job))
+tells-barred ticket job folder r p =
+    (λ e. decides-barred job folder ticket .so (sym p ∙ e), λ barred. p ∙ told-true (decides-barred job folder ticket) barred)
 
 -- ---- 01: "Show that any two outcomes allowed by it are equal."
 
@@ -262,6 +274,9 @@ tells-free-settled ticket clock = settled _
 
 pub tells-due-settled : (ticket : Ticket) (clock : ℕ) → Settled (TellsDue ticket clock)
 tells-due-settled ticket clock = settled _
+
+pub tells-barred-settled : (ticket : Ticket) (job folder : ℕ) → Settled (TellsBarred ticket job folder)
+tells-barred-settled ticket job folder = settled _
 
 pub numbers-settled : (f : Fault) → Settled (Numbers f)
 numbers-settled f = settled _

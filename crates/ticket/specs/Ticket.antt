@@ -8,7 +8,7 @@ use Rattle.ticket.specs.declared.Ticket.{Ticket}
 
 -- nothing was asked
 abbrev pub noRequest : Request
-noRequest = record { job = 0; unit = 0; sort = 0; register = 0; wait = 0 }
+noRequest = record { job = 0; unit = 0; sort = 0; register = 0; wait = 0; folder = 0 }
 
 -- no ticket, and none that was cancelled or expired
 abbrev pub noTicket : Ticket

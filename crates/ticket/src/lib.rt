@@ -1,12 +1,13 @@
 // What stands on a host address: a ticket that waits for its reply, or what is kept of one that was
-// cancelled or expired, or nothing. Which reply fits it, rows 61 and 17 to 20, when it is due, and
-// when the address may be given out. specs/ says what each call answers.
+// cancelled or expired, or nothing. Which reply fits it, rows 61 and 17 to 20, when it is due, when
+// the address may be given out, and whom it keeps off its folder. specs/ says what each call answers.
 use request::Request;
 use telegram::ACK;
 use telegram::BUSY;
 use telegram::DATAGRAM;
 use telegram::READ;
 ghost use Rattle.ticket.specs.Due.{TellsDue};
+ghost use Rattle.ticket.specs.Folder.{TellsBarred};
 ghost use Rattle.ticket.specs.Fit.{Judges, Numbers, kindFits, registerFits, wantedFor};
 ghost use Rattle.ticket.specs.Rest.{TellsFree, isResting};
 ghost use mathlib.Core.Path.{_≡_};
@@ -31,6 +32,7 @@ pub const NO_TICKET: Ticket = Ticket {
         sort: 0,
         register: 0,
         wait: 0,
+        folder: 0,
     },
     opened: 0,
     withdrawn: false,
@@ -138,4 +140,15 @@ pub fn is_due(ticket: Ticket, clock: u32) -> bool
     let asked = ticket.asked;
     let age = std::num::wrapping_sub_u32(clock, ticket.opened);
     ticket.live && asked.wait <= age
+}
+
+// Whether the ticket keeps a job off a folder: it is open for another job and holds that folder.
+pub fn bars(ticket: Ticket, job: u32, folder: u32) -> bool
+    ensures { λ r. ⌜ TellsBarred ticket job folder r ⌝ }
+{
+    let asked = ticket.asked;
+    if ticket.live {
+        return asked.folder == folder && asked.job != job;
+    }
+    false
 }

@@ -2,6 +2,7 @@
 -- said out.
 -- Assumes nothing.
 use mathlib.Core.Path.{_≡_, refl, sym, ap, subst, _∙_}
+use mathlib.Core.Bool.{true}
 use mathlib.Core.List.{List, _∷_}
 use mathlib.Core.Logic.{_⊎_, inl, inr}
 use mathlib.Core.Option.{Option, some, none}
@@ -13,21 +14,21 @@ use lib.ListN.{length}
 use lib.Seq.{length-take-le}
 use Rattle.rows.proofs.Laws.{clash}
 use Rattle.request.specs.declared.Request.{Request}
-use Rattle.desk.specs.Open.{Opens}
-use Rattle.desk.specs.declared.AfterOpen.{AfterOpen}
+use Rattle.desk.proofs.Folder.{held-exactly}
+use Rattle.desk.specs.Open.{openTold}
 use Rattle.desk.specs.declared.Desk.{Desk}
-use Rattle.desk.specs.declared.Opening.{Opening}
-use Rattle.desk.specs.declared.Opening.the-variants.{Opened, Refused as NotOpened}
+use Rattle.lanes.proofs.Answers.{granted-told, taken-told}
+use Rattle.lanes.proofs.Laws.{taken-out-keeps}
 use Rattle.lanes.proofs.Ranking.{own-is, for-own, for-empty, empty-ended, not-theirs-before, passed-empty, next-waits}
 use Rattle.lanes.specs.Lanes.{Empty, Belongs, TheirLane, laneAt, waitingWith, dataOf, queueIn, withLast, without, ownLane, emptyLane}
 use Rattle.lanes.specs.Join.{joinRefusal, joinAnswer, joinLanes, laneFor, Joins}
-use Rattle.lanes.specs.Grant.{grantRefusal, nextDistance, nextPlace, movesOn, servedFrom, fromDesk, Grants, GrantsBy}
+use Rattle.lanes.specs.Grant.{grantRefusal, nextDistance, nextPlace, servedFrom, Grants, GrantsBy}
 use Rattle.lanes.specs.Withdraw.{withdrawRefusal, withdrawAnswer, withdrawLanes, Withdraws}
 use Rattle.lanes.specs.declared.AfterGrant.{AfterGrant}
 use Rattle.lanes.specs.declared.AfterJoin.{AfterJoin}
 use Rattle.lanes.specs.declared.AfterWithdraw.{AfterWithdraw}
 use Rattle.lanes.specs.declared.Fault.{Fault}
-use Rattle.lanes.specs.declared.Granting.the-variants.{Granted, Refused as NotGranted}
+use Rattle.lanes.specs.declared.Granting.the-variants.{Granted, TakenOut, Refused as NotGranted}
 use Rattle.lanes.specs.declared.Joining.the-variants.{Joined, Refused as NotJoined}
 use Rattle.lanes.specs.declared.Lane.{Lane}
 use Rattle.lanes.specs.declared.Lanes.{Lanes}
@@ -35,7 +36,7 @@ use Rattle.lanes.specs.declared.Waiting.{Waiting}
 use Rattle.lanes.specs.declared.Withdrawing.the-variants.{Done, Refused as NotDone}
 use Rattle.turns.specs.Turns.{Orderly, oldest}
 use Rattle.turns.specs.Queue.{less}
-use Rattle.turns.specs.Outcome.{JoinedAt, GrantedAt, WithdrawnAt}
+use Rattle.turns.specs.Outcome.{JoinedAt, TurnAt, GrantedAt, TakenOutAt, WithdrawnAt}
 use Rattle.turns.proofs.Arrays.{put-there, put-other}
 use Rattle.turns.proofs.Orderly.{fit-to-join, fit-to-grant, fit-to-withdraw}
 use Rattle.turns.proofs.Queue.{longer, shorter, first-of}
@@ -93,45 +94,63 @@ front-off : {ws later : List Waiting} {w : Waiting} → ws ≡ w ∷ later → l
 unfolding less
 front-off e = ap (less 0) e
 
-pub granted-right : (lanes : Lanes) (desk : Desk) (clock : ℕ) (room : List ℕ) (r : AfterGrant) (room′ : List ℕ) (job address n : ℕ) → Orderly lanes
-    → Grants lanes desk clock room r room′ → r .answer ≡ Granted job address n → GrantedAt lanes desk clock room job address n r room′
-unfolding nextPlace
-granted-right lanes desk clock room r room′ job address n o g e = go (grantRefusal lanes (length room)) refl g
-  where
-    by : grantRefusal lanes (length room) ≡ none → GrantsBy none lanes desk clock room r room′ → (a : Opening)
-        → r .answer ≡ fromDesk (oldest lanes .asked .job) a → r .lanes ≡ servedFrom lanes (nextPlace lanes) (laneAt lanes (nextPlace lanes)) (movesOn a)
-        → (o : AfterOpen) → Opens desk (oldest lanes .asked) (dataOf (oldest lanes)) clock room o room′ → o .answer ≡ a → r .desk ≡ o .desk
-        → GrantedAt lanes desk clock room job address n r room′
-    by x g (NotOpened f) told next at-desk opens is desk-is = let both : Granted job address n ≡ NotGranted _ = sym e ∙ told in clash (cc)
-    by x g (Opened there m) told next at-desk opens is desk-is =
-        let fit = fit-to-grant lanes (length room) x in
-        let k : ℕ = nextPlace lanes in
-        let both : Granted job address n ≡ Granted (oldest lanes .asked .job) there m = sym e ∙ told in
-        let first = first-of (laneAt lanes (nextPlace lanes)) (fit .3) (o .four (nextPlace lanes) (fit .2)) in
-        let rest = shorter (laneAt lanes (nextPlace lanes)) 0 (o .four (nextPlace lanes) (fit .2)) (o .at-most (nextPlace lanes) (fit .2)) (fit .3) in
-        record {
-          distance = nextDistance lanes;
-          near = fit .1;
-          passed = λ j h. passed-empty lanes j h;
-          waited = next-waits lanes (fit .1);
-          request = oldest lanes;
-          later = first .0;
-          was = first .1;
-          job-is = let l : job ≡ oldest lanes .asked .job = cc in l;
-          at-desk = at-desk;
-          opens = opens;
-          answered = is ∙ (let l : Opened there m ≡ Opened address n = cc in l);
-          desk-next = desk-is;
-          left = ap (λ (l : Lanes). queueIn (laneAt l (nextPlace lanes))) next
-              ∙ (ap queueIn (put-there lanes (nextPlace lanes) (nextPlace lanes) (without (laneAt lanes (nextPlace lanes)) 0) (omega (arith, o .sixteen, fit .2)))
-              ∙ (rest ∙ front-off (first .1)));
-          others = λ m n. ap (λ (l : Lanes). laneAt l m) next ∙ put-other lanes (nextPlace lanes) (nextPlace lanes) (without (laneAt lanes (nextPlace lanes)) 0) m n;
-          turn = ap (λ (l : Lanes). l .last) next;
-        }
+-- a grant that used its turn
+module _ (lanes : Lanes) (desk : Desk) (clock : ℕ) (room : List ℕ) (r : AfterGrant) (room′ : List ℕ) (o : Orderly lanes) where
+  turn-at : grantRefusal lanes (length room) ≡ none → r .lanes ≡ servedFrom lanes (nextPlace lanes) (laneAt lanes (nextPlace lanes)) true → TurnAt lanes (oldest lanes) r
+  unfolding nextPlace
+  turn-at x next =
+      let fit = fit-to-grant lanes (length room) x in
+      let first = first-of (laneAt lanes (nextPlace lanes)) (fit .3) (o .four (nextPlace lanes) (fit .2)) in
+      let rest = shorter (laneAt lanes (nextPlace lanes)) 0 (o .four (nextPlace lanes) (fit .2)) (o .at-most (nextPlace lanes) (fit .2)) (fit .3) in
+      record {
+        distance = nextDistance lanes;
+        near = fit .1;
+        passed = λ j h. passed-empty lanes j h;
+        waited = next-waits lanes (fit .1);
+        later = first .0;
+        was = first .1;
+        left = ap (λ (l : Lanes). queueIn (laneAt l (nextPlace lanes))) next
+            ∙ (ap queueIn (put-there lanes (nextPlace lanes) (nextPlace lanes) (without (laneAt lanes (nextPlace lanes)) 0) (omega (arith, o .sixteen, fit .2)))
+            ∙ (rest ∙ front-off (first .1)));
+        others = λ m n. ap (λ (l : Lanes). laneAt l m) next ∙ put-other lanes (nextPlace lanes) (nextPlace lanes) (without (laneAt lanes (nextPlace lanes)) 0) m n;
+        turn = ap (λ (l : Lanes). l .last) next;
+      }
 
-    go : (x : Option Fault) → grantRefusal lanes (length room) ≡ x → GrantsBy x lanes desk clock room r room′ → GrantedAt lanes desk clock room job address n r room′
-    go (some f) x g = let both : Granted job address n ≡ NotGranted f = sym e ∙ g .0 .0 in clash (cc)
-    go none x g = by x g (g .0 .answer) (g .2 .0) (g .2 .1) (g .0) (g .1) refl (g .2 .2)
+  pub granted-right : (job address n : ℕ) → Grants lanes desk clock room r room′ → r .answer ≡ Granted job address n → GrantedAt lanes desk clock room job address n r room′
+  granted-right job address n g e = go (grantRefusal lanes (length room)) refl g
+    where
+      go : (x : Option Fault) → grantRefusal lanes (length room) ≡ x → GrantsBy x lanes desk clock room r room′ → GrantedAt lanes desk clock room job address n r room′
+      go (some f) x g = let both : Granted job address n ≡ NotGranted f = sym e ∙ g .0 .0 in clash (cc)
+      go none x g =
+          let told = granted-told (oldest lanes .asked .job) job address n (g .0 .answer) (sym e ∙ g .2 .0) in
+          record {
+            request = oldest lanes;
+            turn = turn-at x (g .2 .1 ∙ rw (told .0));
+            job-is = told .1;
+            at-desk = g .0;
+            opens = g .1;
+            answered = told .0;
+            desk-next = g .2 .2;
+          }
+
+  -- 02, #110: one that was taken out
+  pub taken-right : (job : ℕ) → Grants lanes desk clock room r room′ → r .answer ≡ TakenOut job → TakenOutAt lanes desk room job r room′
+  taken-right job whole e = go (grantRefusal lanes (length room)) refl whole
+    where
+      go : (x : Option Fault) → grantRefusal lanes (length room) ≡ x → GrantsBy x lanes desk clock room r room′ → TakenOutAt lanes desk room job r room′
+      go (some f) x g = let both : TakenOut job ≡ NotGranted f = sym e ∙ g .0 .0 in clash (cc)
+      go none x g =
+          let told = taken-told (oldest lanes .asked .job) job (g .0 .answer) (sym e ∙ g .2 .0) in
+          let kept = taken-out-keeps lanes desk clock room r room′ whole job e in
+          record {
+            request = oldest lanes;
+            turn = turn-at x (g .2 .1 ∙ rw (told .0));
+            job-is = told .1;
+            held = held-exactly desk (oldest lanes .asked) (dataOf (oldest lanes)) clock room (g .0) room′ (g .1) .0 (ap openTold (told .0)) .1;
+            considered-none = kept .0;
+            desk-kept = kept .1;
+            room-kept = kept .2;
+          }
 
 -- ---- withdrawing
 

@@ -24,7 +24,7 @@ use Rattle.lanes.specs.declared.Lane.{Lane}
 use Rattle.lanes.specs.declared.Lanes.{Lanes}
 use Rattle.request.specs.declared.Request.{Request}
 use Rattle.turns.specs.Turns.{Hall, Call, joins, grants, withdraws, atDesk, after, granted, allAfter, oldest, openedWith, Orderly}
-use Rattle.turns.specs.Fair.{turnUsed, counts, counted, Fate, waits, opened, withdrawn, nearer, takenAt, atGrant, atWithdrawal, fateBy, fate}
+use Rattle.turns.specs.Fair.{turnUsed, counts, counted, Fate, waits, hadTurn, withdrawn, nearer, takenAt, atGrant, atWithdrawal, fateBy, fate}
 use Rattle.turns.proofs.Arrays.{same-or-not, put, put-there, put-other, last-other, before-gone, behind-gone}
 use Rattle.turns.proofs.Orderly.{fit-to-withdraw, keeps-order, fresh-orderly, any-orderly}
 
@@ -235,10 +235,10 @@ module _ (lane place place′ : ℕ) (in-hall : lane < 16) where
 
 -- ---- over all calls
 
-ended-opened : (hall : Hall) (calls : List Call) (lane : ℕ) → fate hall calls lane opened ≡ opened
+ended-turn : (hall : Hall) (calls : List Call) (lane : ℕ) → fate hall calls lane hadTurn ≡ hadTurn
 unfolding fate
-ended-opened hall [] lane = refl
-ended-opened hall (c ∷ cs) lane = refl
+ended-turn hall [] lane = refl
+ended-turn hall (c ∷ cs) lane = refl
 
 ended-withdrawn : (hall : Hall) (calls : List Call) (lane : ℕ) → fate hall calls lane withdrawn ≡ withdrawn
 unfolding fate
@@ -267,7 +267,7 @@ all-calls hall (c ∷ cs) lane place place′ hl o h e =
         ≤ turnsTo (hall .lanes) lane place)
         × (place′ < laneAt (allAfter (after hall c) cs .lanes) lane .size)
         × (waitingAt (laneAt (allAfter (after hall c) cs .lanes) lane) place′ ≡ waitingAt (laneAt (hall .lanes) lane) place)
-    by opened f e again = let z : opened ≡ waits place′ = sym (ended-opened (after hall c) cs lane) ∙ e in clash (cc)
+    by hadTurn f e again = let z : hadTurn ≡ waits place′ = sym (ended-turn (after hall c) cs lane) ∙ e in clash (cc)
     by withdrawn f e again = let z : withdrawn ≡ waits place′ = sym (ended-withdrawn (after hall c) cs lane) ∙ e in clash (cc)
     by (waits p) f e again =
         let one = one-call lane place p hl hall c o h f in
@@ -286,17 +286,17 @@ fair hall calls lane p place′ hl o h enough e =
     let near : far (hall .lanes .last) lane < 16 = omega arith in
     omega (arith, all, near, enough)
 
--- so of any lanes that calls made, in front of any desk: it has been opened, or it was withdrawn
-pub opened-within : (desk : Desk) (made calls : List Call) (lane p : ℕ) → lane < 16
+-- so of any lanes that calls made, in front of any desk: it has been "opened or taken out", or it was withdrawn
+pub turn-within : (desk : Desk) (made calls : List Call) (lane p : ℕ) → lane < 16
     → p < laneAt (allAfter (record { lanes = freshLanes; desk = desk }) made .lanes) lane .size
     → 16 * (p + 1) ≤ counted (allAfter (record { lanes = freshLanes; desk = desk }) made) calls
-    → (fate (allAfter (record { lanes = freshLanes; desk = desk }) made) calls lane (waits p) ≡ opened)
+    → (fate (allAfter (record { lanes = freshLanes; desk = desk }) made) calls lane (waits p) ≡ hadTurn)
     ⊎ (fate (allAfter (record { lanes = freshLanes; desk = desk }) made) calls lane (waits p) ≡ withdrawn)
-opened-within desk made calls lane p hl h enough =
+turn-within desk made calls lane p hl h enough =
     by (fate (allAfter (record { lanes = freshLanes; desk = desk }) made) calls lane (waits p)) refl
   where
-    by : (f : Fate) → fate (allAfter (record { lanes = freshLanes; desk = desk }) made) calls lane (waits p) ≡ f → (f ≡ opened) ⊎ (f ≡ withdrawn)
-    by opened e = inl refl
+    by : (f : Fate) → fate (allAfter (record { lanes = freshLanes; desk = desk }) made) calls lane (waits p) ≡ f → (f ≡ hadTurn) ⊎ (f ≡ withdrawn)
+    by hadTurn e = inl refl
     by withdrawn e = inr refl
     by (waits q) e =
         absurd (fair (allAfter (record { lanes = freshLanes; desk = desk }) made) calls lane p q hl

@@ -11,42 +11,44 @@ use borrow.Author.Tests.{le-ltb, eqb-true}
 use lib.Dec.{eqb, leb}
 use lib.ListN.{length, length-append}
 use Rattle.rows.proofs.Laws.{ranked, _otherwise_, ranked-append, numbered}
-use Rattle.rows.specs.Rows.{Row, row, Ranked, Numbered, test, firstOf, orLater, raised}
+use Rattle.rows.specs.Rows.{Row, row, Ranked, Numbered, Test, test, firstOf, orLater, raised}
 use Rattle.request.proofs.Laws.{allowed-writable}
 use Rattle.request.specs.Request.{askRefusal}
 use Rattle.request.specs.declared.Request.{Request}
 use Rattle.telegram.proofs.Send.{telegram-long, length-messageFor}
 use Rattle.telegram.specs.Write.{messageFor}
-use Rattle.desk.proofs.Ranking.{decides-none-free}
+use Rattle.desk.proofs.Ranking.{decides-none-free, decides-folder-held}
 use Rattle.desk.specs.Desk.{freshDesk}
+use Rattle.desk.specs.Folder.{IsFolderHeld, isFolderHeld}
 use Rattle.desk.specs.Open.{distanceOf, givenPlace, requestAt, openRefusal, openAnswer, IsNoneFree}
 use Rattle.desk.specs.declared.Desk.{Desk}
 use Rattle.desk.specs.declared.Fault.{Fault as DeskFault}
-use Rattle.desk.specs.declared.Fault.the-variants.{NoneFree}
+use Rattle.desk.specs.declared.Fault.the-variants.{FolderHeld, NoneFree}
 use Rattle.desk.specs.declared.Opening.{Opening}
 use Rattle.desk.specs.declared.Opening.the-variants.{Opened, Refused as NotOpened}
 use Rattle.nights.proofs.Laws.{any-night, opens-after, then-all}
 use Rattle.nights.specs.Night.{Night, afterAll, answeredAll}
 use Rattle.lanes.proofs.Ranking.{grant-ranked}
-use Rattle.lanes.specs.Lanes.{freshLanes, laneAt, waitingWith, dataOf, faultNumber}
+use Rattle.lanes.specs.Lanes.{freshLanes, laneAt, waitingAt, waitingWith, dataOf, faultNumber}
 use Rattle.lanes.specs.Join.{joinRefusal, joinAnswer, laneFor, Joins}
-use Rattle.lanes.specs.Grant.{IsShortBuffer, IsNothingWaiting, grantRows, grantRefusal, nextPlace, movesOn, fromDesk, grantTold, Grants, GrantsBy}
+use Rattle.lanes.specs.Grant.{IsShortBuffer, IsNothingWaiting, grantRows, grantRefusal, nextPlace, takesOut, movesOn, fromDesk, grantTold, Grants, GrantsBy}
 use Rattle.lanes.specs.Withdraw.{withdrawRefusal, withdrawAnswer, Withdraws}
 use Rattle.lanes.specs.declared.AfterGrant.{AfterGrant}
 use Rattle.lanes.specs.declared.AfterJoin.{AfterJoin}
 use Rattle.lanes.specs.declared.AfterWithdraw.{AfterWithdraw}
 use Rattle.lanes.specs.declared.Fault.{Fault}
 use Rattle.lanes.specs.declared.Fault.the-variants.{AtDesk}
+use Rattle.lanes.specs.declared.Granting.{Granting}
+use Rattle.lanes.specs.declared.Granting.the-variants.{Granted, TakenOut, Refused as NotGranted}
 use Rattle.lanes.specs.declared.Lanes.{Lanes}
-use Rattle.lanes.specs.declared.Waiting.{Waiting}
 use Rattle.turns.specs.Fair.{counts, turnUsed}
 use Rattle.turns.specs.Turns.{Hall, Call, joins, grants, withdraws, atDesk, after, granted, allAfter, oldest, openedWith, reaches, grantReaches, allReach, Orderly}
-use Rattle.turns.specs.Queue.{Event, joined, opened, withdrew, nothing, eventOf, allAnswered, ofJoin, ofGrant, ofOpening, ofWithdrawal, less, waitingOf, Right, InTurn}
-use Rattle.turns.specs.Queue.{sawJoining, sawGranting, sawWithdrawing, numberOf, joinedBy, openedFor, withdrawnBy}
+use Rattle.turns.specs.Queue.{Event, joined, opened, takenOut, withdrew, nothing, eventOf, allAnswered, ofJoin, ofGrant, ofOpening, ofWithdrawal, less, waitingOf, Right, InTurn}
+use Rattle.turns.specs.Queue.{sawJoining, sawGranting, sawWithdrawing, numberOf, joinedBy, openedFor, takenFrom, withdrawnBy}
 use Rattle.turns.proofs.Orderly.{fresh-orderly, keeps-order, fit-to-grant}
 use Rattle.turns.proofs.Queue.{one-goes, fresh-kept, less-by-one}
 
--- ---- "in order of arrival": what waits is what was seen to join, less what was opened, from the front, and what was withdrawn
+-- ---- "in order of arrival": what waits is what was seen to join, less what was opened or taken out, from the front, and what was withdrawn
 
 step : (hall : Hall) (past : List Event) (call : Call) → InTurn hall past → InTurn (after hall call) (eventOf hall call ∷ past)
 step hall past call t =
@@ -67,24 +69,36 @@ pub any-turns : (desk : Desk) (calls : List Call)
 unfolding Right
 any-turns desk calls = on calls (fresh desk) [] (record { orderly = fresh-orderly; kept = fresh-kept; right = tt })
 
--- "each is opened at most once": of what a job joined, each was opened, was withdrawn or waits
+-- "each is opened at most once": of what a job joined, each was opened, was taken out, was withdrawn or waits
 pub each-once : (past : List Event) (job : ℕ) → Right past
-    → numberOf (joinedBy job) past ≡ numberOf (openedFor job) past + numberOf (withdrawnBy job) past + length (waitingOf past job)
+    → numberOf (joinedBy job) past ≡ numberOf (openedFor job) past + numberOf (takenFrom job) past + numberOf (withdrawnBy job) past + length (waitingOf past job)
 unfolding numberOf waitingOf Right
 each-once [] job r = refl
 each-once (joined asked bytes ∷ past) job r = go (eqb (asked .job) job) (each-once past job (r .1))
   where
-    go : (b : Bool) → numberOf (joinedBy job) past ≡ numberOf (openedFor job) past + numberOf (withdrawnBy job) past + length (waitingOf past job)
+    go : (b : Bool) → numberOf (joinedBy job) past ≡ numberOf (openedFor job) past + numberOf (takenFrom job) past + numberOf (withdrawnBy job) past + length (waitingOf past job)
         → cond b (suc (numberOf (joinedBy job) past)) (numberOf (joinedBy job) past)
-        ≡ numberOf (openedFor job) past + numberOf (withdrawnBy job) past + length (cond b (waitingOf past job ++ (waitingWith asked bytes ∷ [])) (waitingOf past job))
+        ≡ numberOf (openedFor job) past + numberOf (takenFrom job) past + numberOf (withdrawnBy job) past + length (cond b (waitingOf past job ++ (waitingWith asked bytes ∷ [])) (waitingOf past job))
     go true e = omega (arith, e, length-append (waitingOf past job) (waitingWith asked bytes ∷ []))
     go false e = e
 each-once (opened asked bytes address clock ∷ past) job r = go (eqb (asked .job) job) refl (each-once past job (r .1))
   where
     go : (b : Bool) → eqb (asked .job) job ≡ b
-        → numberOf (joinedBy job) past ≡ numberOf (openedFor job) past + numberOf (withdrawnBy job) past + length (waitingOf past job)
+        → numberOf (joinedBy job) past ≡ numberOf (openedFor job) past + numberOf (takenFrom job) past + numberOf (withdrawnBy job) past + length (waitingOf past job)
         → numberOf (joinedBy job) past
-        ≡ cond b (suc (numberOf (openedFor job) past)) (numberOf (openedFor job) past) + numberOf (withdrawnBy job) past
+        ≡ cond b (suc (numberOf (openedFor job) past)) (numberOf (openedFor job) past) + numberOf (takenFrom job) past + numberOf (withdrawnBy job) past
+        + length (cond b (less 0 (waitingOf past job)) (waitingOf past job))
+    go true is e =
+        let j : asked .job ≡ job = eqb-true (asked .job) job is in
+        let first = subst (λ (x : ℕ). waitingOf past x ≡ waitingWith asked bytes ∷ r .0 .later) j (r .0 .was-oldest) in
+        omega (arith, e, ap length first, less-by-one 0 (waitingOf past job) (omega (arith, ap length first)))
+    go false is e = e
+each-once (takenOut asked bytes ∷ past) job r = go (eqb (asked .job) job) refl (each-once past job (r .1))
+  where
+    go : (b : Bool) → eqb (asked .job) job ≡ b
+        → numberOf (joinedBy job) past ≡ numberOf (openedFor job) past + numberOf (takenFrom job) past + numberOf (withdrawnBy job) past + length (waitingOf past job)
+        → numberOf (joinedBy job) past
+        ≡ numberOf (openedFor job) past + cond b (suc (numberOf (takenFrom job) past)) (numberOf (takenFrom job) past) + numberOf (withdrawnBy job) past
         + length (cond b (less 0 (waitingOf past job)) (waitingOf past job))
     go true is e =
         let j : asked .job ≡ job = eqb-true (asked .job) job is in
@@ -94,9 +108,9 @@ each-once (opened asked bytes address clock ∷ past) job r = go (eqb (asked .jo
 each-once (withdrew owner at ∷ past) job r = go (eqb owner job) refl (each-once past job (r .2))
   where
     go : (b : Bool) → eqb owner job ≡ b
-        → numberOf (joinedBy job) past ≡ numberOf (openedFor job) past + numberOf (withdrawnBy job) past + length (waitingOf past job)
+        → numberOf (joinedBy job) past ≡ numberOf (openedFor job) past + numberOf (takenFrom job) past + numberOf (withdrawnBy job) past + length (waitingOf past job)
         → numberOf (joinedBy job) past
-        ≡ numberOf (openedFor job) past + cond b (suc (numberOf (withdrawnBy job) past)) (numberOf (withdrawnBy job) past)
+        ≡ numberOf (openedFor job) past + numberOf (takenFrom job) past + cond b (suc (numberOf (withdrawnBy job) past)) (numberOf (withdrawnBy job) past)
         + length (cond b (less (at - 1) (waitingOf past job)) (waitingOf past job))
     go true is e =
         let within = subst (λ (x : ℕ). at ≤ length (waitingOf past x)) (eqb-true owner job is) (r .1) in
@@ -153,22 +167,23 @@ withdraws-after hall job at r w =
     go (some f) = refl
     go none = refl
 
--- a grant that is not refused is one that counts
-abbrev pub isGranted : Option ℕ → Bool
-isGranted (some n) = false
-isGranted none = true
+-- a grant that opened a request or took it out is one that counts
+abbrev pub usesTurn : Granting → Bool
+usesTurn (Granted job address n) = true
+usesTurn (TakenOut job) = true
+usesTurn (NotGranted f) = false
 
 pub grants-after : (hall : Hall) (clock : ℕ) (room : List ℕ) (r : AfterGrant) (room′ : List ℕ) → Grants (hall .lanes) (hall .desk) clock room r room′
     → (after hall (grants clock room) ≡ record { lanes = r .lanes; desk = r .desk })
     × (eventOf hall (grants clock room) ≡ sawGranting (r .answer) (oldest (hall .lanes)) clock)
-    × (counts hall (grants clock room) ≡ isGranted (grantTold (r .answer)))
+    × (counts hall (grants clock room) ≡ usesTurn (r .answer))
 unfolding after eventOf counts
 grants-after hall clock room r room′ g = go (grantRefusal (hall .lanes) (length room)) g
   where
     go : (x : Option Fault) → GrantsBy x (hall .lanes) (hall .desk) clock room r room′
         → (granted x hall clock room ≡ record { lanes = r .lanes; desk = r .desk })
         × (ofGrant x hall clock room ≡ sawGranting (r .answer) (oldest (hall .lanes)) clock)
-        × (turnUsed x hall clock room ≡ isGranted (grantTold (r .answer)))
+        × (turnUsed x hall clock room ≡ usesTurn (r .answer))
     go (some f) g = rw (g .0 .0, g .0 .1, g .0 .2) (refl, refl, refl)
     go none g =
         let o = g .0 in
@@ -178,61 +193,75 @@ grants-after hall clock room r room′ g = go (grantRefusal (hall .lanes) (lengt
         rw (g .2 .0, g .2 .1, g .2 .2, desk, answer) (refl, seen .0, seen .1)
       where
         by : (a : Opening) → (ofOpening a (oldest (hall .lanes)) clock ≡ sawGranting (fromDesk (oldest (hall .lanes) .asked .job) a) (oldest (hall .lanes)) clock)
-            × (movesOn a ≡ isGranted (grantTold (fromDesk (oldest (hall .lanes) .asked .job) a)))
+            × (movesOn a ≡ usesTurn (fromDesk (oldest (hall .lanes) .asked .job) a))
         by (Opened address n) = (refl, refl)
-        by (NotOpened f) = (refl, refl)
+        by (NotOpened f) = out (takesOut f)
+          where
+            out : (b : Bool)
+                → (cond b (takenOut (oldest (hall .lanes) .asked) (dataOf (oldest (hall .lanes)))) nothing
+                ≡ sawGranting (cond b (TakenOut (oldest (hall .lanes) .asked .job)) (NotGranted (AtDesk f))) (oldest (hall .lanes)) clock)
+                × (b ≡ usesTurn (cond b (TakenOut (oldest (hall .lanes) .asked .job)) (NotGranted (AtDesk f))))
+            out true = (refl, refl)
+            out false = (refl, refl)
 
--- ---- "a grant can never be refused by anything but 73, 74, 15": what waits passed 10 to 14, and its telegram has room in 494 bytes
+-- ---- "a grant can never be refused by anything but 73, 74, 15", and by #110 75: what waits passed 10 to 14, and its telegram has room in 494
+-- bytes
 
-only-none-free : (desk : Desk) (asked : Request) (bytes : List ℕ) (clock room : ℕ) → askRefusal asked bytes ≡ none → 494 ≤ room
-    → openRefusal desk asked bytes clock room ≡ cond (leb 95 (distanceOf desk clock)) (some NoneFree) none
+-- what the desk can refuse it with
+abbrev atDeskTests : Bool → Bool → List (Test DeskFault)
+atDeskTests held far = test held FolderHeld ∷ test far NoneFree ∷ []
+
+only-these : (desk : Desk) (asked : Request) (bytes : List ℕ) (clock room : ℕ) → askRefusal asked bytes ≡ none → 494 ≤ room
+    → openRefusal desk asked bytes clock room ≡ firstOf (atDeskTests (isFolderHeld desk asked) (leb 95 (distanceOf desk clock)))
 unfolding openRefusal
-only-none-free desk asked bytes clock room passed wide =
+only-these desk asked bytes clock room passed wide =
     let can = allowed-writable asked bytes passed in
     let sized = length-messageFor (asked .unit) (161 + givenPlace desk clock) (asked .sort) (asked .register) bytes in
     let long : length (requestAt (givenPlace desk clock) asked bytes) ≤ 494 =
     telegram-long (messageFor (asked .unit) (161 + givenPlace desk clock) (asked .sort) (asked .register) bytes) (omega (arith, sized, can .0)) in
     rw passed (simp (le-ltb room (length (requestAt (givenPlace desk clock) asked bytes)) (omega arith)))
 
-abbrev grantedRows : Lanes → Desk → ℕ → ℕ → List (Row Fault)
-grantedRows lanes desk clock room = grantRows lanes room ++ (row (IsNoneFree desk clock) (AtDesk NoneFree) ∷ [])
+abbrev deskRows : Lanes → Desk → ℕ → List (Row Fault)
+deskRows lanes desk clock = row (IsFolderHeld desk (oldest lanes .asked)) (AtDesk FolderHeld) ∷ row (IsNoneFree desk clock) (AtDesk NoneFree) ∷ []
+
+abbrev deskTests : Lanes → Desk → ℕ → List (Test Fault)
+deskTests lanes desk clock = test (isFolderHeld desk (oldest lanes .asked)) (AtDesk FolderHeld) ∷ test (leb 95 (distanceOf desk clock)) (AtDesk NoneFree) ∷ []
 
 granted-ranked : (lanes : Lanes) (desk : Desk) (clock room : ℕ)
-    → Ranked (grantedRows lanes desk clock room) (orLater (grantRefusal lanes room) (firstOf (test (leb 95 (distanceOf desk clock)) (AtDesk NoneFree) ∷ [])))
+    → Ranked (grantRows lanes room ++ deskRows lanes desk clock) (orLater (grantRefusal lanes room) (firstOf (deskTests lanes desk clock)))
 granted-ranked lanes desk clock room =
-    ranked-append (grantRows lanes room) (row (IsNoneFree desk clock) (AtDesk NoneFree) ∷ []) (grantRefusal lanes room)
-    (firstOf (test (leb 95 (distanceOf desk clock)) (AtDesk NoneFree) ∷ [])) (grant-ranked lanes room)
-    (λ n. ranked (test (leb 95 (distanceOf desk clock)) (AtDesk NoneFree) ∷ []) (row (IsNoneFree desk clock) (AtDesk NoneFree) ∷ [])
-    (decides-none-free desk clock otherwise λ n₁₅. tt))
+    ranked-append (grantRows lanes room) (deskRows lanes desk clock) (grantRefusal lanes room) (firstOf (deskTests lanes desk clock)) (grant-ranked lanes room)
+    (λ n. ranked (deskTests lanes desk clock) (deskRows lanes desk clock)
+    (decides-folder-held desk (oldest lanes .asked) otherwise λ n₇₅. decides-none-free desk clock otherwise λ n₁₅. tt))
 
 pub grant-exactly : (lanes : Lanes) (desk : Desk) (clock : ℕ) (room : List ℕ) (r : AfterGrant) (room′ : List ℕ) → Orderly lanes → Grants lanes desk clock room r room′
     → Numbered
     (row (length room < 494) 73
     ∷ row ((place : ℕ) → place < 16 → laneAt lanes place .size ≡ 0) 74
+    ∷ row (IsFolderHeld desk (waitingAt (laneAt lanes (nextPlace lanes)) 0 .asked)) 75
     ∷ row (IsNoneFree desk clock) 15
     ∷ [])
-    (73 ∷ 74 ∷ 15 ∷ []) (grantTold (r .answer))
+    (73 ∷ 74 ∷ 75 ∷ 15 ∷ []) (grantTold (r .answer))
 unfolding grantRows IsShortBuffer IsNothingWaiting
 grant-exactly lanes desk clock room r room′ o g =
-    numbered faultNumber (grantedRows lanes desk clock (length room))
-    (orLater (grantRefusal lanes (length room)) (firstOf (test (leb 95 (distanceOf desk clock)) (AtDesk NoneFree) ∷ [])))
-    (granted-ranked lanes desk clock (length room)) (73 ∷ 74 ∷ 15 ∷ []) refl refl (grantTold (r .answer))
+    numbered faultNumber (grantRows lanes (length room) ++ deskRows lanes desk clock)
+    (orLater (grantRefusal lanes (length room)) (firstOf (deskTests lanes desk clock)))
+    (granted-ranked lanes desk clock (length room)) (73 ∷ 74 ∷ 75 ∷ 15 ∷ []) refl refl (grantTold (r .answer))
     (go (grantRefusal lanes (length room)) refl g)
   where
     go : (x : Option Fault) → grantRefusal lanes (length room) ≡ x → GrantsBy x lanes desk clock room r room′
-        → grantTold (r .answer) ≡ raised faultNumber (orLater x (firstOf (test (leb 95 (distanceOf desk clock)) (AtDesk NoneFree) ∷ [])))
+        → grantTold (r .answer) ≡ raised faultNumber (orLater x (firstOf (deskTests lanes desk clock)))
     go (some f) e g = ap grantTold (g .0 .0)
     go none e g =
         let fit = fit-to-grant lanes (length room) e in
-        let w : Waiting = oldest lanes in
-        let refusal = only-none-free desk (oldest lanes .asked) (dataOf (oldest lanes)) clock (length room) (o .allowed (nextPlace lanes) 0 (fit .2) (fit .3)) (fit .0) in
-        let n : ℕ = length (requestAt (givenPlace desk clock) (oldest lanes .asked) (dataOf (oldest lanes))) in
-        let answer : g .0 .answer ≡ openAnswer (cond (leb 95 (distanceOf desk clock)) (some NoneFree) none) (161 + givenPlace desk clock) n =
+        let refusal = only-these desk (oldest lanes .asked) (dataOf (oldest lanes)) clock (length room) (o .allowed (nextPlace lanes) 0 (fit .2) (fit .3)) (fit .0) in
+        let answer =
         g .1 .0 ∙ ap (λ (x : Option DeskFault). openAnswer x (161 + givenPlace desk clock) (length (requestAt (givenPlace desk clock) (oldest lanes .asked) (dataOf (oldest lanes))))) refusal in
-        ap grantTold (g .2 .0 ∙ ap (fromDesk (oldest lanes .asked .job)) answer) ∙ told (leb 95 (distanceOf desk clock))
+        ap grantTold (g .2 .0 ∙ ap (fromDesk (oldest lanes .asked .job)) answer) ∙ told (isFolderHeld desk (oldest lanes .asked)) (leb 95 (distanceOf desk clock))
       where
-        told : (far : Bool) → grantTold (fromDesk (oldest lanes .asked .job) (openAnswer (cond far (some NoneFree) none) (161 + givenPlace desk clock)
+        told : (held far : Bool) → grantTold (fromDesk (oldest lanes .asked .job) (openAnswer (firstOf (atDeskTests held far)) (161 + givenPlace desk clock)
             (length (requestAt (givenPlace desk clock) (oldest lanes .asked) (dataOf (oldest lanes))))))
-            ≡ raised faultNumber (cond far (some (AtDesk NoneFree)) none)
-        told true = refl
-        told false = refl
+            ≡ raised faultNumber (firstOf (test held (AtDesk FolderHeld) ∷ test far (AtDesk NoneFree) ∷ []))
+        told true far = refl
+        told false true = refl
+        told false false = refl

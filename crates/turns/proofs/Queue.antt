@@ -1,7 +1,7 @@
--- What waits in the lanes is what the callers saw join, less what was opened and withdrawn.
+-- What waits in the lanes is what the callers saw join, less what was opened, taken out and withdrawn.
 -- Assumes nothing.
 use mathlib.Core.Path.{_≡_, refl, sym, ap, subst, _∙_}
-use mathlib.Core.Bool.{cond}
+use mathlib.Core.Bool.{Bool, true, false, cond}
 use mathlib.Core.List.{List, [], _∷_, _++_}
 use mathlib.Core.Logic.{_≢_}
 use mathlib.Core.Option.{Option, some, none}
@@ -20,14 +20,14 @@ use Rattle.request.specs.declared.Request.{Request}
 use Rattle.lanes.proofs.Ranking.{decides-theirs, own-is, is-own}
 use Rattle.lanes.specs.Lanes.{noRequest, freshLanes, Empty, Belongs, isTheirs, laneAt, waitingAt, waitingWith, dataOf, queueIn, withLast, without, ownLane}
 use Rattle.lanes.specs.Join.{joinRefusal, joinLanes, laneFor}
-use Rattle.lanes.specs.Grant.{grantRefusal, nextPlace, movesOn, servedFrom}
+use Rattle.lanes.specs.Grant.{grantRefusal, nextPlace, takesOut, movesOn, servedFrom}
 use Rattle.lanes.specs.Withdraw.{withdrawRefusal, withdrawLanes}
 use Rattle.lanes.specs.declared.Fault.{Fault}
 use Rattle.lanes.specs.declared.Lane.{Lane}
 use Rattle.lanes.specs.declared.Lanes.{Lanes}
 use Rattle.lanes.specs.declared.Waiting.{Waiting}
 use Rattle.turns.specs.Turns.{Hall, Call, joins, grants, withdraws, atDesk, after, granted, oldest, openedWith, Orderly}
-use Rattle.turns.specs.Queue.{Event, joined, opened, withdrew, nothing, ofJoin, ofOpening, ofGrant, ofWithdrawal, eventOf, less, waitingOf, Kept, Right}
+use Rattle.turns.specs.Queue.{Event, joined, opened, takenOut, withdrew, nothing, ofJoin, ofOpening, ofGrant, ofWithdrawal, eventOf, less, waitingOf, Kept, Oldest, Right}
 use Rattle.turns.proofs.Arrays.{same-or-not, put, put-there, put-other}
 use Rattle.turns.proofs.Orderly.{lane-in-order, fit-to-join, fit-to-grant, fit-to-withdraw, lane-of-job, no-other-lane, first-job, same-job, fresh-lane}
 
@@ -236,33 +236,43 @@ first-of lane h four =
     go zero ws h rest a e = absurd (omega arith)
     go (suc n) ws h rest a e = (take n rest, rw e refl)
 
-opened-goes : (lanes : Lanes) (past : List Event) → Orderly lanes → (k : ℕ) → k < 16 → 1 ≤ laneAt lanes k .size → (address clock : ℕ)
-    → Goes lanes past (opened (waitingAt (laneAt lanes k) 0 .asked) (dataOf (waitingAt (laneAt lanes k) 0)) address clock)
-    (put lanes k k (without (laneAt lanes k) 0))
-unfolding Kept waitingOf Right
-opened-goes lanes past o k h some-one address clock = (
-  λ kept job. less-goes lanes past o k k 0 h some-one (omega arith) kept job,
-  λ kept right.
-      let first = first-of (laneAt lanes k) some-one (o .four k h) in (
-        record {
-          later = first .0;
-          was-oldest = holds-queue lanes past o k k 0 h some-one (omega arith) kept ∙ (first .1 ∙ ap (λ (w : Waiting). w ∷ first .0) (o .as-laid k 0 h (omega arith)));
-        },
-        right,
-      ),
-)
+-- the oldest of a lane left it: by what waits then, and that it was the oldest
+module _ (lanes : Lanes) (past : List Event) (o : Orderly lanes) (k : ℕ) (h : k < 16) (some-one : 1 ≤ laneAt lanes k .size) where
+  was-first : Kept lanes past
+      → Oldest (waitingOf past (waitingAt (laneAt lanes k) 0 .asked .job)) (waitingAt (laneAt lanes k) 0 .asked) (dataOf (waitingAt (laneAt lanes k) 0))
+  was-first kept =
+      let first = first-of (laneAt lanes k) some-one (o .four k h) in
+      record {
+        later = first .0;
+        was-oldest = holds-queue lanes past o k k 0 h some-one (omega arith) kept ∙ (first .1 ∙ ap (λ (w : Waiting). w ∷ first .0) (o .as-laid k 0 h (omega arith)));
+      }
+
+  opened-goes : (address clock : ℕ)
+      → Goes lanes past (opened (waitingAt (laneAt lanes k) 0 .asked) (dataOf (waitingAt (laneAt lanes k) 0)) address clock)
+      (put lanes k k (without (laneAt lanes k) 0))
+  unfolding Kept waitingOf Right
+  opened-goes address clock =
+      (λ kept job. less-goes lanes past o k k 0 h some-one (omega arith) kept job, λ kept right. (was-first kept, right))
+
+  taken-goes : Goes lanes past (takenOut (waitingAt (laneAt lanes k) 0 .asked) (dataOf (waitingAt (laneAt lanes k) 0))) (put lanes k k (without (laneAt lanes k) 0))
+  unfolding Kept waitingOf Right
+  taken-goes = (λ kept job. less-goes lanes past o k k 0 h some-one (omega arith) kept job, λ kept right. (was-first kept, right))
 
 grant-goes : (hall : Hall) (past : List Event) (clock : ℕ) (room : List ℕ) → Orderly (hall .lanes) → grantRefusal (hall .lanes) (length room) ≡ none → (a : Opening)
     → Goes (hall .lanes) past (ofOpening a (oldest (hall .lanes)) clock)
     (servedFrom (hall .lanes) (nextPlace (hall .lanes)) (laneAt (hall .lanes) (nextPlace (hall .lanes))) (movesOn a))
-grant-goes hall past clock room o e (NotOpened f) = same-queue (hall .lanes) (hall .lanes) past refl
-grant-goes hall past clock room o e (Opened address n) = served
+grant-goes hall past clock room o e (Opened address n) =
+    let fit = fit-to-grant (hall .lanes) (length room) e in
+    opened-goes (hall .lanes) past o (nextPlace (hall .lanes)) (fit .2) (fit .3) address clock
+grant-goes hall past clock room o e (NotOpened f) = by (takesOut f)
   where
-    served : Goes (hall .lanes) past (opened (oldest (hall .lanes) .asked) (dataOf (oldest (hall .lanes))) address clock)
-        (put (hall .lanes) (nextPlace (hall .lanes)) (nextPlace (hall .lanes)) (without (laneAt (hall .lanes) (nextPlace (hall .lanes))) 0))
-    served =
+    by : (out : Bool)
+        → Goes (hall .lanes) past (cond out (takenOut (oldest (hall .lanes) .asked) (dataOf (oldest (hall .lanes)))) nothing)
+        (servedFrom (hall .lanes) (nextPlace (hall .lanes)) (laneAt (hall .lanes) (nextPlace (hall .lanes))) out)
+    by true =
         let fit = fit-to-grant (hall .lanes) (length room) e in
-        opened-goes (hall .lanes) past o (nextPlace (hall .lanes)) (fit .2) (fit .3) address clock
+        taken-goes (hall .lanes) past o (nextPlace (hall .lanes)) (fit .2) (fit .3)
+    by false = same-queue (hall .lanes) (hall .lanes) past refl
 
 waits-there : (lanes : Lanes) (past : List Event) (job at : ℕ) → Orderly lanes → ownLane lanes job < 16 → (some-one : 1 ≤ laneAt lanes (ownLane lanes job) .size)
     → at - 1 < laneAt lanes (ownLane lanes job) .size → at ≤ laneAt lanes (ownLane lanes job) .size

@@ -6,6 +6,7 @@ use mathlib.Core.Logic.{_≢_, _⊎_}
 use Prim.Native.Nat.{ℕ, _+_, _-_, _%_, _≤_, _<_}
 use lib.ListN.{length}
 use Rattle.request.specs.declared.Request.{Request}
+use Rattle.desk.specs.Folder.{IsFolderHeld}
 use Rattle.desk.specs.Open.{Opens}
 use Rattle.desk.specs.declared.AfterOpen.{AfterOpen}
 use Rattle.desk.specs.declared.Desk.{Desk}
@@ -28,24 +29,38 @@ pub record JoinedAt (lanes : Lanes) (asked : Request) (bytes : List ℕ) (lane a
   pub others : (m : ℕ) → m ≢ place → laneAt lanes′ m ≡ laneAt lanes m
   pub turn-kept : lanes′ .last ≡ lanes .last
 
--- "the first lane with something waiting after the lane last served [..], going round": its oldest request was opened at the desk, at the
--- grant's clock and with its data; it left the lane, which is the one last served now
-pub record GrantedAt (lanes : Lanes) (desk : Desk) (clock : ℕ) (room : List ℕ) (job address n : ℕ) (r : AfterGrant) (room′ : List ℕ) : Type 0 where
+-- "the first lane with something waiting after the lane last served [..], going round", had its turn: this request, its oldest, left the
+-- lane, and that is the one last served now
+pub record TurnAt (lanes : Lanes) (request : Waiting) (r : AfterGrant) : Type 0 where
   pub distance : ℕ
   pub near : distance < 16
   pub passed : (j : ℕ) → j < distance → Empty (laneAt lanes ((lanes .last + 1 + j) % 16))
   pub waited : Empty (laneAt lanes ((lanes .last + 1 + distance) % 16)) → ⊥
-  pub request : Waiting
   pub later : List Waiting
   pub was : queueIn (laneAt lanes ((lanes .last + 1 + distance) % 16)) ≡ request ∷ later
+  pub left : queueIn (laneAt (r .lanes) ((lanes .last + 1 + distance) % 16)) ≡ later
+  pub others : (m : ℕ) → m ≢ (lanes .last + 1 + distance) % 16 → laneAt (r .lanes) m ≡ laneAt lanes m
+  pub turn : r .lanes .last ≡ (lanes .last + 1 + distance) % 16
+
+-- a request of the job was opened at the desk, at the grant's clock and with its data
+pub record GrantedAt (lanes : Lanes) (desk : Desk) (clock : ℕ) (room : List ℕ) (job address n : ℕ) (r : AfterGrant) (room′ : List ℕ) : Type 0 where
+  pub request : Waiting
+  pub turn : TurnAt lanes request r
   pub job-is : job ≡ request .asked .job
   pub at-desk : AfterOpen
   pub opens : Opens desk (request .asked) (dataOf request) clock room at-desk room′
   pub answered : at-desk .answer ≡ Opened address n
   pub desk-next : r .desk ≡ at-desk .desk
-  pub left : queueIn (laneAt (r .lanes) ((lanes .last + 1 + distance) % 16)) ≡ later
-  pub others : (m : ℕ) → m ≢ (lanes .last + 1 + distance) % 16 → laneAt (r .lanes) m ≡ laneAt lanes m
-  pub turn : r .lanes .last ≡ (lanes .last + 1 + distance) % 16
+
+-- 02, #110: or it was taken out, because an open ticket of another job held its folder; the desk and the buffer are as before
+pub record TakenOutAt (lanes : Lanes) (desk : Desk) (room : List ℕ) (job : ℕ) (r : AfterGrant) (room′ : List ℕ) : Type 0 where
+  pub request : Waiting
+  pub turn : TurnAt lanes request r
+  pub job-is : job ≡ request .asked .job
+  pub held : IsFolderHeld desk (request .asked)
+  pub considered-none : r .count ≡ 0
+  pub desk-kept : r .desk ≡ desk
+  pub room-kept : room′ ≡ room
 
 -- the request at that place, from 1, left the job's lane, and "later ones move up"
 pub record WithdrawnAt (lanes : Lanes) (job at : ℕ) (lanes′ : Lanes) : Type 0 where

@@ -60,20 +60,20 @@ asked-with desk clock room r room′ made asked two v same laid opens =
 -- ---- what the box makes of an answer
 
 module _ (box : FilterBox) (at : ℕ) (pass : Pass) (tenths : ℕ) (out-is : box .out ≡ out.Edge at pass tenths) where
-  pub reply-elsewhere : (answer : Booking) (job address sort n : ℕ) → answer ≡ Booked job address sort n → at ≢ address → box ≡ heardReply box answer
-  reply-elsewhere answer job address sort n is left = rw (is, out-is, ne-eqb at address left)
+  pub reply-elsewhere : (answer : Booking) (job address sort n folder : ℕ) → answer ≡ Booked job address sort n folder → at ≢ address → box ≡ heardReply box answer
+  reply-elsewhere answer job address sort n folder is left = rw (is, out-is, ne-eqb at address left)
 
-  pub reply-acks : (answer : Booking) (job address sort n : ℕ) → answer ≡ Booked job address sort n → at ≡ address → sort ≡ 3
+  pub reply-acks : (answer : Booking) (job address sort n folder : ℕ) → answer ≡ Booked job address sort n folder → at ≡ address → sort ≡ 3
       → withEdge box pass (Known tenths) ≡ heardReply box answer
-  reply-acks answer job address sort n is taken ack = rw (is, out-is, eq-eqb at address taken, eq-eqb sort 3 ack)
+  reply-acks answer job address sort n folder is taken ack = rw (is, out-is, eq-eqb at address taken, eq-eqb sort 3 ack)
 
-  pub reply-leaves : (answer : Booking) (job address sort n : ℕ) → answer ≡ Booked job address sort n → at ≡ address → sort ≢ 3
+  pub reply-leaves : (answer : Booking) (job address sort n folder : ℕ) → answer ≡ Booked job address sort n folder → at ≡ address → sort ≢ 3
       → withOut box out.Nothing ≡ heardReply box answer
-  reply-leaves answer job address sort n is taken left = rw (is, out-is, eq-eqb at address taken, ne-eqb sort 3 left)
+  reply-leaves answer job address sort n folder is taken left = rw (is, out-is, eq-eqb at address taken, ne-eqb sort 3 left)
 
-  pub closing-elsewhere : (answer : Closing) (job address : ℕ) → answer ≡ Closed job address → at ≢ address → box ≡ heardClosing box answer
-  closing-elsewhere answer job address is left = rw (is, out-is, ne-eqb at address left)
+  pub closing-elsewhere : (answer : Closing) (job address folder : ℕ) → answer ≡ Closed job address folder → at ≢ address → box ≡ heardClosing box answer
+  closing-elsewhere answer job address folder is left = rw (is, out-is, ne-eqb at address left)
 
-  pub closing-forgets : (answer : Closing) (job address : ℕ) → answer ≡ Closed job address → at ≡ address
+  pub closing-forgets : (answer : Closing) (job address folder : ℕ) → answer ≡ Closed job address folder → at ≡ address
       → withEdge box pass Unknown ≡ heardClosing box answer
-  closing-forgets answer job address is taken = rw (is, out-is, eq-eqb at address taken)
+  closing-forgets answer job address folder is taken = rw (is, out-is, eq-eqb at address taken)

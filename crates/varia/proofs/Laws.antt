@@ -186,7 +186,7 @@ module _ (box : FilterBox) (desk : Desk) (wait clock : ℕ) (room : List ℕ) (r
   pub set-opened : (pass : Pass) (tenths : ℕ) → SetsEdge pass box desk tenths wait clock room r room′ → (address n : ℕ) → r .answer ≡ Opened address n
       → (edgeRefusal box pass tenths ≡ none)
       × ((o : AfterOpen)
-      × Opens desk (record { job = box .job; unit = box .unit; sort = 5; register = edgeRegister pass; wait = wait })
+      × Opens desk (record { job = box .job; unit = box .unit; sort = 5; register = edgeRegister pass; wait = wait; folder = 0 })
       (tenths % 256 ∷ tenths / 256 % 256 ∷ []) clock room o room′
       × (o .answer ≡ OpenedAt address n)
       × (r .desk ≡ o .desk)
@@ -200,7 +200,7 @@ module _ (box : FilterBox) (desk : Desk) (wait clock : ℕ) (room : List ℕ) (r
   pub attenuate-opened : (permille : ℕ) → Attenuates box desk permille wait clock room r room′ → (address n : ℕ) → r .answer ≡ Opened address n
       → (attenuationRefusal permille ≡ none)
       × ((o : AfterOpen)
-      × Opens desk (record { job = box .job; unit = box .unit; sort = 5; register = 50; wait = wait })
+      × Opens desk (record { job = box .job; unit = box .unit; sort = 5; register = 50; wait = wait; folder = 0 })
       (permille % 256 ∷ permille / 256 % 256 ∷ []) clock room o room′
       × (o .answer ≡ OpenedAt address n)
       × (r .desk ≡ o .desk)
@@ -212,7 +212,7 @@ module _ (box : FilterBox) (desk : Desk) (wait clock : ℕ) (room : List ℕ) (r
 
   pub monitor-opened : ReadsMonitor box desk wait clock room r room′ → (address n : ℕ) → r .answer ≡ Opened address n
       → (o : AfterOpen)
-      × Opens desk (record { job = box .job; unit = box .unit; sort = 4; register = 19; wait = wait }) [] clock room o room′
+      × Opens desk (record { job = box .job; unit = box .unit; sort = 4; register = 19; wait = wait; folder = 0 }) [] clock room o room′
       × (o .answer ≡ OpenedAt address n)
       × (r .desk ≡ o .desk)
       × (r .filters ≡ box)
@@ -221,7 +221,7 @@ module _ (box : FilterBox) (desk : Desk) (wait clock : ℕ) (room : List ℕ) (r
 
   pub status-opened : ReadsStatus box desk wait clock room r room′ → (address n : ℕ) → r .answer ≡ Opened address n
       → (o : AfterOpen)
-      × Opens desk (record { job = box .job; unit = box .unit; sort = 4; register = 102; wait = wait }) [] clock room o room′
+      × Opens desk (record { job = box .job; unit = box .unit; sort = 4; register = 102; wait = wait; folder = 0 }) [] clock room o room′
       × (o .answer ≡ OpenedAt address n)
       × (r .desk ≡ o .desk)
       × (r .filters ≡ box)
@@ -337,7 +337,7 @@ module _ (box : FilterBox) (desk : Desk) (wait clock : ℕ) (room : List ℕ) (r
       back (NotOpened g) e = cc
 
   pub set-passed-up : (pass : Pass) (tenths : ℕ) → SetsEdge pass box desk tenths wait clock room r room′
-      → DeskRefused (record { job = box .job; unit = box .unit; sort = 5; register = edgeRegister pass; wait = wait }) (tenths % 256 ∷ tenths / 256 % 256 ∷ [])
+      → DeskRefused (record { job = box .job; unit = box .unit; sort = 5; register = edgeRegister pass; wait = wait; folder = 0 }) (tenths % 256 ∷ tenths / 256 % 256 ∷ [])
   unfolding edgeRefusal bytesOf
   set-passed-up pass tenths a =
       passed-up (nowOut box pass tenths) (request box 5 (edgeRegister pass) wait) (bytesOf 2 tenths) (edgeRefusal box pass tenths)
@@ -349,7 +349,7 @@ module _ (box : FilterBox) (desk : Desk) (wait clock : ℕ) (room : List ℕ) (r
       own false false e = clash (cc)
 
   pub attenuate-passed-up : (permille : ℕ) → Attenuates box desk permille wait clock room r room′
-      → DeskRefused (record { job = box .job; unit = box .unit; sort = 5; register = 50; wait = wait }) (permille % 256 ∷ permille / 256 % 256 ∷ [])
+      → DeskRefused (record { job = box .job; unit = box .unit; sort = 5; register = 50; wait = wait; folder = 0 }) (permille % 256 ∷ permille / 256 % 256 ∷ [])
   unfolding attenuationRefusal bytesOf
   attenuate-passed-up permille a =
       passed-up (λ o. box) (request box 5 attenuationRegister wait) (bytesOf 2 permille) (attenuationRefusal permille) (own (ltb 1000 permille)) a
@@ -359,11 +359,11 @@ module _ (box : FilterBox) (desk : Desk) (wait clock : ℕ) (room : List ℕ) (r
       own false e = clash (cc)
 
   pub monitor-passed-up : ReadsMonitor box desk wait clock room r room′
-      → DeskRefused (record { job = box .job; unit = box .unit; sort = 4; register = 19; wait = wait }) []
+      → DeskRefused (record { job = box .job; unit = box .unit; sort = 4; register = 19; wait = wait; folder = 0 }) []
   monitor-passed-up a = passed-up (λ o. box) (request box 4 19 wait) [] none (λ e. clash (cc)) a
 
   pub status-passed-up : ReadsStatus box desk wait clock room r room′
-      → DeskRefused (record { job = box .job; unit = box .unit; sort = 4; register = 102; wait = wait }) []
+      → DeskRefused (record { job = box .job; unit = box .unit; sort = 4; register = 102; wait = wait; folder = 0 }) []
   status-passed-up a = passed-up (λ o. box) (request box 4 102 wait) [] none (λ e. clash (cc)) a
 
   -- 02, #108: and so the count that comes with it, by the desk's number
@@ -396,9 +396,9 @@ pub refusals-tell-nothing : (box r : FilterBox) (f : DeskFault) → (HearsReply 
 refusals-tell-nothing box r f = (λ p. p, λ p. p)
 
 pub nothing-out-stays : (box r : FilterBox) → box .out ≡ out.Nothing
-    → ((job address sort n : ℕ) → HearsReply box (Booked job address sort n) r → r ≡ box)
-    × ((job address : ℕ) → HearsClosing box (Closed job address) r → r ≡ box)
-nothing-out-stays box r free = (λ job address sort n p. p ∙ rw free, λ job address p. p ∙ rw free)
+    → ((job address sort n folder : ℕ) → HearsReply box (Booked job address sort n folder) r → r ≡ box)
+    × ((job address folder : ℕ) → HearsClosing box (Closed job address folder) r → r ≡ box)
+nothing-out-stays box r free = (λ job address sort n folder p. p ∙ rw free, λ job address folder p. p ∙ rw free)
 
 -- one edge is set, and nothing is out any more
 pub edge-set : (box : FilterBox) (pass : Pass) (edge : Edge)
@@ -413,7 +413,7 @@ edge-set box Long edge = (refl, refl, refl, refl, refl)
 -- whose box it is never changes
 pub reply-same-box : (box : FilterBox) (answer : Booking) (r : FilterBox) → HearsReply box answer r → (r .job ≡ box .job) × (r .unit ≡ box .unit)
 reply-same-box box (NotBooked f) r p = rw p (refl, refl)
-reply-same-box box (Booked job address sort n) r p = rw p (by-out (box .out))
+reply-same-box box (Booked job address sort n folder) r p = rw p (by-out (box .out))
   where
     by-out : (o : Out) → (booked o box address sort .job ≡ box .job) × (booked o box address sort .unit ≡ box .unit)
     by-out out.Nothing = (refl, refl)
@@ -427,7 +427,7 @@ reply-same-box box (Booked job address sort n) r p = rw p (by-out (box .out))
 
 pub closing-same-box : (box : FilterBox) (answer : Closing) (r : FilterBox) → HearsClosing box answer r → (r .job ≡ box .job) × (r .unit ≡ box .unit)
 closing-same-box box (NotClosed f) r p = rw p (refl, refl)
-closing-same-box box (Closed job address) r p = rw p (by-out (box .out))
+closing-same-box box (Closed job address folder) r p = rw p (by-out (box .out))
   where
     by-out : (o : Out) → (withdrawn o box address .job ≡ box .job) × (withdrawn o box address .unit ≡ box .unit)
     by-out out.Nothing = (refl, refl)
@@ -439,26 +439,26 @@ closing-same-box box (Closed job address) r p = rw p (by-out (box .out))
 
 module _ (box : FilterBox) (address : ℕ) (pass : Pass) (tenths : ℕ) (is-out : box .out ≡ out.Edge address pass tenths) where
   -- an ack sets the edge to what was asked, and that edge alone
-  pub ack-sets : (job n : ℕ) (r : FilterBox) → HearsReply box (Booked job address 3 n) r
+  pub ack-sets : (job n folder : ℕ) (r : FilterBox) → HearsReply box (Booked job address 3 n folder) r
       → (edgeOf r pass ≡ Known tenths) × (edgeOf r (other pass) ≡ edgeOf box (other pass)) × (r .out ≡ out.Nothing) × (r .job ≡ box .job) × (r .unit ≡ box .unit)
-  ack-sets job n r p = let is : r ≡ withEdge box pass (Known tenths) = p ∙ rw (is-out, eq-eqb address address refl) in rw is (edge-set box pass (Known tenths))
+  ack-sets job n folder r p = let is : r ≡ withEdge box pass (Known tenths) = p ∙ rw (is-out, eq-eqb address address refl) in rw is (edge-set box pass (Known tenths))
 
   -- "after a nack, check error or busy it stays as it was"
-  pub nack-keeps : (job sort n : ℕ) (r : FilterBox) → sort ≢ 3 → HearsReply box (Booked job address sort n) r
+  pub nack-keeps : (job sort n folder : ℕ) (r : FilterBox) → sort ≢ 3 → HearsReply box (Booked job address sort n folder) r
       → r ≡ record { job = box .job; unit = box .unit; short = box .short; long = box .long; out = out.Nothing }
-  nack-keeps job sort n r other-type p = p ∙ rw (is-out, eq-eqb address address refl, ne-eqb sort 3 other-type)
+  nack-keeps job sort n folder r other-type p = p ∙ rw (is-out, eq-eqb address address refl, ne-eqb sort 3 other-type)
 
   -- "An edge whose request expires or is cancelled becomes unknown", and that edge alone
-  pub giving-up-forgets : (job : ℕ) (r : FilterBox) → HearsClosing box (Closed job address) r
+  pub giving-up-forgets : (job folder : ℕ) (r : FilterBox) → HearsClosing box (Closed job address folder) r
       → (edgeOf r pass ≡ Unknown) × (edgeOf r (other pass) ≡ edgeOf box (other pass)) × (r .out ≡ out.Nothing) × (r .job ≡ box .job) × (r .unit ≡ box .unit)
-  giving-up-forgets job r p = let is : r ≡ withEdge box pass Unknown = p ∙ rw (is-out, eq-eqb address address refl) in rw is (edge-set box pass Unknown)
+  giving-up-forgets job folder r p = let is : r ≡ withEdge box pass Unknown = p ∙ rw (is-out, eq-eqb address address refl) in rw is (edge-set box pass Unknown)
 
   -- an answer about another address leaves the box as it was
-  pub elsewhere-booked : (job other-address sort n : ℕ) (r : FilterBox) → address ≢ other-address → HearsReply box (Booked job other-address sort n) r → r ≡ box
-  elsewhere-booked job other-address sort n r apart p = p ∙ rw (is-out, ne-eqb address other-address apart)
+  pub elsewhere-booked : (job other-address sort n folder : ℕ) (r : FilterBox) → address ≢ other-address → HearsReply box (Booked job other-address sort n folder) r → r ≡ box
+  elsewhere-booked job other-address sort n folder r apart p = p ∙ rw (is-out, ne-eqb address other-address apart)
 
-  pub elsewhere-given-up : (job other-address : ℕ) (r : FilterBox) → address ≢ other-address → HearsClosing box (Closed job other-address) r → r ≡ box
-  elsewhere-given-up job other-address r apart p = p ∙ rw (is-out, ne-eqb address other-address apart)
+  pub elsewhere-given-up : (job other-address folder : ℕ) (r : FilterBox) → address ≢ other-address → HearsClosing box (Closed job other-address folder) r → r ≡ box
+  elsewhere-given-up job other-address folder r apart p = p ∙ rw (is-out, ne-eqb address other-address apart)
 
 -- ---- the display
 

@@ -112,10 +112,10 @@ module _ (box : FilterBox) (desk : Desk) (wait clock : ℕ) (room : List ℕ) (r
   pub set-exactly : (pass : Pass) (tenths : ℕ) → SetsEdge pass box desk tenths wait clock room r room′
       → Numbered
       (passedUp faultNumber (edgeRows box pass tenths) ++ deskRows (request box 5 (edgeRegister pass) wait) (bytesOf 2 tenths))
-      (59 ∷ 63 ∷ 10 ∷ 11 ∷ 12 ∷ 13 ∷ 14 ∷ 15 ∷ 16 ∷ []) (askTold (r .answer))
+      (59 ∷ 63 ∷ 10 ∷ 11 ∷ 12 ∷ 13 ∷ 14 ∷ 75 ∷ 15 ∷ 16 ∷ []) (askTold (r .answer))
   unfolding edgeRows openRows placeRows askRows
   set-exactly pass tenths a =
-      numbered-as _ (59 ∷ 63 ∷ 10 ∷ 11 ∷ 12 ∷ 13 ∷ 14 ∷ 15 ∷ 16 ∷ []) (askTold (r .answer)) refl refl
+      numbered-as _ (59 ∷ 63 ∷ 10 ∷ 11 ∷ 12 ∷ 13 ∷ 14 ∷ 75 ∷ 15 ∷ 16 ∷ []) (askTold (r .answer)) refl refl
       (asks-ranked (edgeRows box pass tenths) (nowOut box pass tenths) box desk (request box 5 (edgeRegister pass) wait) (bytesOf 2 tenths) clock room r room′
       (edgeRefusal box pass tenths) (edge-ranked box pass tenths) a)
 
@@ -123,9 +123,9 @@ module _ (box : FilterBox) (desk : Desk) (wait clock : ℕ) (room : List ℕ) (r
       → Numbered
       (row ((address : ℕ) × (which : Pass) × (value : ℕ) × (box .out ≡ out.Edge address which value)) 59
       ∷ row ((there : ℕ) × (box .long ≡ Known there) × (there < tenths → ⊥)) 63
-      ∷ deskRows (record { job = box .job; unit = box .unit; sort = 5; register = 51; wait = wait })
+      ∷ deskRows (record { job = box .job; unit = box .unit; sort = 5; register = 51; wait = wait; folder = 0 })
       (tenths % 256 ∷ tenths / 256 % 256 ∷ []))
-      (59 ∷ 63 ∷ 10 ∷ 11 ∷ 12 ∷ 13 ∷ 14 ∷ 15 ∷ 16 ∷ []) (askTold (r .answer))
+      (59 ∷ 63 ∷ 10 ∷ 11 ∷ 12 ∷ 13 ∷ 14 ∷ 75 ∷ 15 ∷ 16 ∷ []) (askTold (r .answer))
   unfolding edgeRows IsEdgeOut IsOutOfOrder bytesOf
   set-short-plainly tenths a = set-exactly Short tenths a
 
@@ -133,44 +133,44 @@ module _ (box : FilterBox) (desk : Desk) (wait clock : ℕ) (room : List ℕ) (r
       → Numbered
       (row ((address : ℕ) × (which : Pass) × (value : ℕ) × (box .out ≡ out.Edge address which value)) 59
       ∷ row ((there : ℕ) × (box .short ≡ Known there) × (tenths < there → ⊥)) 63
-      ∷ deskRows (record { job = box .job; unit = box .unit; sort = 5; register = 52; wait = wait })
+      ∷ deskRows (record { job = box .job; unit = box .unit; sort = 5; register = 52; wait = wait; folder = 0 })
       (tenths % 256 ∷ tenths / 256 % 256 ∷ []))
-      (59 ∷ 63 ∷ 10 ∷ 11 ∷ 12 ∷ 13 ∷ 14 ∷ 15 ∷ 16 ∷ []) (askTold (r .answer))
+      (59 ∷ 63 ∷ 10 ∷ 11 ∷ 12 ∷ 13 ∷ 14 ∷ 75 ∷ 15 ∷ 16 ∷ []) (askTold (r .answer))
   unfolding edgeRows IsEdgeOut IsOutOfOrder bytesOf
   set-long-plainly tenths a = set-exactly Long tenths a
 
   pub attenuate-exactly : (permille : ℕ) → Attenuates box desk permille wait clock room r room′
       → Numbered
       (passedUp faultNumber (attenuationRows permille) ++ deskRows (request box 5 attenuationRegister wait) (bytesOf 2 permille))
-      (62 ∷ 10 ∷ 11 ∷ 12 ∷ 13 ∷ 14 ∷ 15 ∷ 16 ∷ []) (askTold (r .answer))
+      (62 ∷ 10 ∷ 11 ∷ 12 ∷ 13 ∷ 14 ∷ 75 ∷ 15 ∷ 16 ∷ []) (askTold (r .answer))
   unfolding attenuationRows openRows placeRows askRows
   attenuate-exactly permille a =
-      numbered-as _ (62 ∷ 10 ∷ 11 ∷ 12 ∷ 13 ∷ 14 ∷ 15 ∷ 16 ∷ []) (askTold (r .answer)) refl refl
+      numbered-as _ (62 ∷ 10 ∷ 11 ∷ 12 ∷ 13 ∷ 14 ∷ 75 ∷ 15 ∷ 16 ∷ []) (askTold (r .answer)) refl refl
       (asks-ranked (attenuationRows permille) (λ o. box) box desk (request box 5 attenuationRegister wait) (bytesOf 2 permille) clock room r room′
       (attenuationRefusal permille) (attenuation-ranked permille) a)
 
   pub attenuate-plainly : (permille : ℕ) → Attenuates box desk permille wait clock room r room′
       → Numbered
       (row (1000 < permille) 62
-      ∷ deskRows (record { job = box .job; unit = box .unit; sort = 5; register = 50; wait = wait })
+      ∷ deskRows (record { job = box .job; unit = box .unit; sort = 5; register = 50; wait = wait; folder = 0 })
       (permille % 256 ∷ permille / 256 % 256 ∷ []))
-      (62 ∷ 10 ∷ 11 ∷ 12 ∷ 13 ∷ 14 ∷ 15 ∷ 16 ∷ []) (askTold (r .answer))
+      (62 ∷ 10 ∷ 11 ∷ 12 ∷ 13 ∷ 14 ∷ 75 ∷ 15 ∷ 16 ∷ []) (askTold (r .answer))
   unfolding attenuationRows IsTooMuch bytesOf
   attenuate-plainly permille a = attenuate-exactly permille a
 
   reads-exactly : (register : ℕ) → Asks none box (λ o. box) desk (request box 4 register wait) [] clock room r room′
-      → Numbered (deskRows (request box 4 register wait) []) (10 ∷ 11 ∷ 12 ∷ 13 ∷ 14 ∷ 15 ∷ 16 ∷ []) (askTold (r .answer))
+      → Numbered (deskRows (request box 4 register wait) []) (10 ∷ 11 ∷ 12 ∷ 13 ∷ 14 ∷ 75 ∷ 15 ∷ 16 ∷ []) (askTold (r .answer))
   unfolding openRows placeRows askRows
   reads-exactly register a =
-      numbered-as _ (10 ∷ 11 ∷ 12 ∷ 13 ∷ 14 ∷ 15 ∷ 16 ∷ []) (askTold (r .answer)) refl refl
+      numbered-as _ (10 ∷ 11 ∷ 12 ∷ 13 ∷ 14 ∷ 75 ∷ 15 ∷ 16 ∷ []) (askTold (r .answer)) refl refl
       (asks-ranked [] (λ o. box) box desk (request box 4 register wait) [] clock room r room′ none tt a)
 
   pub monitor-exactly : ReadsMonitor box desk wait clock room r room′
-      → Numbered (deskRows (record { job = box .job; unit = box .unit; sort = 4; register = 19; wait = wait }) []) (10 ∷ 11 ∷ 12 ∷ 13 ∷ 14 ∷ 15 ∷ 16 ∷ []) (askTold (r .answer))
+      → Numbered (deskRows (record { job = box .job; unit = box .unit; sort = 4; register = 19; wait = wait; folder = 0 }) []) (10 ∷ 11 ∷ 12 ∷ 13 ∷ 14 ∷ 75 ∷ 15 ∷ 16 ∷ []) (askTold (r .answer))
   monitor-exactly = reads-exactly 19
 
   pub status-exactly : ReadsStatus box desk wait clock room r room′
-      → Numbered (deskRows (record { job = box .job; unit = box .unit; sort = 4; register = 102; wait = wait }) []) (10 ∷ 11 ∷ 12 ∷ 13 ∷ 14 ∷ 15 ∷ 16 ∷ []) (askTold (r .answer))
+      → Numbered (deskRows (record { job = box .job; unit = box .unit; sort = 4; register = 102; wait = wait; folder = 0 }) []) (10 ∷ 11 ∷ 12 ∷ 13 ∷ 14 ∷ 75 ∷ 15 ∷ 16 ∷ []) (askTold (r .answer))
   status-exactly = reads-exactly 102
 
 -- ---- the display

@@ -52,7 +52,7 @@ statusRegister = 102
 
 -- a request of the box's
 abbrev pub request : FilterBox → ℕ → ℕ → ℕ → Request
-request box sort register wait = record { job = box .job; unit = box .unit; sort = sort; register = register; wait = wait }
+request box sort register wait = record { job = box .job; unit = box .unit; sort = sort; register = register; wait = wait; folder = 0 }
 
 -- ---- the refusals "ahead of the desk's"
 
@@ -131,11 +131,11 @@ withdrawn out.Nothing box address = box
 withdrawn (out.Edge at pass tenths) box address = cond (eqb at address) (withEdge box pass Unknown) box
 
 abbrev pub heardReply : FilterBox → Booking → FilterBox
-heardReply box (Booked job address sort n) = booked (box .out) box address sort
+heardReply box (Booked job address sort n folder) = booked (box .out) box address sort
 heardReply box (NotBooked f) = box
 
 abbrev pub heardClosing : FilterBox → Closing → FilterBox
-heardClosing box (Closed job address) = withdrawn (box .out) box address
+heardClosing box (Closed job address folder) = withdrawn (box .out) box address
 heardClosing box (NotClosed f) = box
 
 -- ---- the contracts

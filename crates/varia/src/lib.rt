@@ -272,6 +272,7 @@ fn asked(filters: FilterBox, sort: u8, register: u8, wait: u32) -> Request
         sort,
         register,
         wait,
+        folder: 0,
     }
 }
 
@@ -365,7 +366,7 @@ fn edge_register(pass: Pass) -> u8
 pub fn told_reply(filters: FilterBox, answer: Booking) -> FilterBox
     ensures { λ r. ⌜ HearsReply filters answer r ⌝ }
 {
-    let Booking::Booked(_, address, sort, _) = answer else {
+    let Booking::Booked(_, address, sort, _, _) = answer else {
         return filters;
     };
     let out = filters.out;
@@ -385,7 +386,7 @@ pub fn told_reply(filters: FilterBox, answer: Booking) -> FilterBox
 pub fn told_closing(filters: FilterBox, answer: Closing) -> FilterBox
     ensures { λ r. ⌜ HearsClosing filters answer r ⌝ }
 {
-    let Closing::Closed(_, address) = answer else {
+    let Closing::Closed(_, address, _) = answer else {
         return filters;
     };
     let out = filters.out;

@@ -41,6 +41,15 @@ mul-list-2 c = search needs
 slice-write-list-2 : tie.Need-slice-write-list-2
 slice-write-list-2 c = rw (length-set _ _ _) (omega (arith, c .before .before .before .before .before .before .before .before .pre .1))
 
+add-list-2 : tie.Need-add-list-2
+add-list-2 c = search needs
+
+mul-list-3 : tie.Need-mul-list-3
+mul-list-3 c = search needs
+
+slice-write-list-3 : tie.Need-slice-write-list-3
+slice-write-list-3 c = rw (length-set _ _ _, length-set _ _ _) (omega (arith, c .before .before .before .before .before .before .before .before .pre .1))
+
 add-t19 : tie.Need-add-t19
 add-t19 c = search needs
 
@@ -73,6 +82,9 @@ look-at-spec =
     add-list
     mul-list-2
     slice-write-list-2
+    add-list-2
+    mul-list-3
+    slice-write-list-3
     add-t19
     same-length
     returns

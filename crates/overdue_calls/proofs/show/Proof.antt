@@ -49,6 +49,18 @@ mul-entry-4 c = search needs
 shared-slice-read-entry-2 : tie.Need-shared-slice-read-entry-2 Inv-loop μ-loop
 shared-slice-read-entry-2 c = search needs
 
+mul-entry-5 : tie.Need-mul-entry-5 Inv-loop μ-loop
+mul-entry-5 c = search needs
+
+add-entry-2 : tie.Need-add-entry-2 Inv-loop μ-loop
+add-entry-2 c = search needs
+
+mul-entry-6 : tie.Need-mul-entry-6 Inv-loop μ-loop
+mul-entry-6 c = search needs
+
+shared-slice-read-entry-3 : tie.Need-shared-slice-read-entry-3 Inv-loop μ-loop
+shared-slice-read-entry-3 c = search needs
+
 entry-requires : tie.Need-entry-requires Inv-loop μ-loop
 entry-requires c κs = search needs
 
@@ -85,6 +97,10 @@ show-spec =
     add-entry
     mul-entry-4
     shared-slice-read-entry-2
+    mul-entry-5
+    add-entry-2
+    mul-entry-6
+    shared-slice-read-entry-3
     entry-requires
     add-i
     loop-less

@@ -23,7 +23,7 @@ returns-2 : tie.Need-returns-2
 returns-2 c = search needs
 
 returns-3 : tie.Need-returns-3
-returns-3 c = closing-elsewhere _ _ _ _ (c .before .before .out .given .1) _ _ _ (c .before .before .before .before .before .answer .given .1) (c .if1 .taken)
+returns-3 c = closing-elsewhere _ _ _ _ (c .before .before .out .given .1) _ _ _ _ (c .before .before .before .before .before .answer .given .1) (c .if1 .taken)
 
 with-edge-requires : tie.Need-with-edge-requires
 with-edge-requires c κs = search needs
@@ -31,7 +31,7 @@ with-edge-requires c κs = search needs
 returns-4 : tie.Need-returns-4
 returns-4 c =
     c .with-edge .ensures
-    ∙ closing-forgets _ _ _ _ (c .before .before .before .out .given .1) _ _ _ (c .before .before .before .before .before .before .answer .given .1) (c .before .if1 .left)
+    ∙ closing-forgets _ _ _ _ (c .before .before .before .out .given .1) _ _ _ _ (c .before .before .before .before .before .before .answer .given .1) (c .before .if1 .left)
 
 pub told-closing-spec : {M : Type 1} → statement M
 told-closing-spec =

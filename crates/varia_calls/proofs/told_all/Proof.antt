@@ -35,6 +35,18 @@ mul-told-one-4 c = search needs
 shared-slice-read-told-one-2 : tie.Need-shared-slice-read-told-one-2 Inv-loop μ-loop
 shared-slice-read-told-one-2 c = search needs
 
+mul-told-one-5 : tie.Need-mul-told-one-5 Inv-loop μ-loop
+mul-told-one-5 c = search needs
+
+add-told-one-2 : tie.Need-add-told-one-2 Inv-loop μ-loop
+add-told-one-2 c = search needs
+
+mul-told-one-6 : tie.Need-mul-told-one-6 Inv-loop μ-loop
+mul-told-one-6 c = search needs
+
+shared-slice-read-told-one-3 : tie.Need-shared-slice-read-told-one-3 Inv-loop μ-loop
+shared-slice-read-told-one-3 c = search needs
+
 told-one-requires : tie.Need-told-one-requires Inv-loop μ-loop
 told-one-requires c κs = search needs
 
@@ -64,6 +76,10 @@ told-all-spec =
     add-told-one
     mul-told-one-4
     shared-slice-read-told-one-2
+    mul-told-one-5
+    add-told-one-2
+    mul-told-one-6
+    shared-slice-read-told-one-3
     told-one-requires
     add-i
     loop-less

@@ -1,0 +1,74 @@
+use mathlib.Core.Path.{_≡_, sym, _∙_}
+use mathlib.Core.Bool.{false}
+use Prim.Native.Nat.{ℕ, _-_, _≤_, _<_}
+use native.Mathlib.Omega.{arith}
+use borrow.Author.Needs.{needs}
+use borrow.Author.Count.{below-more}
+use Rattle.first.proofs.Laws.{first-at}
+use Rattle.desk.proofs.holder_place.Statement.{statement}
+use Rattle.desk.specs.Folder.{holderPlace}
+use Rattle.ticket.specs.Folder.{isBarred}
+use Rattle.desk.specs.Desk.{ticketAt}
+use Rattle.desk.proofs.Calls.{end-none}
+use Rattle.desk.proofs.holder_place.Tie as tie
+
+abbrev Inv-loop : tie.InvT-loop
+Inv-loop job folder desk k₀ k = (k ≤ 95) × ((i : ℕ) → i < k → isBarred job folder (ticketAt desk i) ≡ false)
+
+abbrev μ-loop : tie.MeasureT-loop
+μ-loop job folder desk k₀ k = 95 - k
+
+loop-holds : tie.Need-loop-holds Inv-loop μ-loop
+loop-holds c = (omega arith, λ i l. absurd (omega arith))
+
+cast-place : tie.Need-cast-place Inv-loop μ-loop
+cast-place c = search needs
+
+mul-bars : tie.Need-mul-bars Inv-loop μ-loop
+mul-bars c = search needs
+
+element-copy-out-bars : tie.Need-element-copy-out-bars Inv-loop μ-loop
+element-copy-out-bars c = search needs
+
+bars-requires : tie.Need-bars-requires Inv-loop μ-loop
+bars-requires c κs = search needs
+
+returns : tie.Need-returns Inv-loop μ-loop
+unfolding holderPlace
+returns c =
+    let loop = c .before .before .before .before in
+    let args = loop .before .args in
+    sym (first-at (λ i. isBarred (args .job) (args .folder) (ticketAt (args .t1) i)) 95 _ (c .before .before .before .loop-test .taken) (loop .loop .inv .1)
+    (sym (c .before .bars .ensures) ∙ c .if1 .taken))
+
+add-k : tie.Need-add-k Inv-loop μ-loop
+add-k c = search needs
+
+loop-less : tie.Need-loop-less Inv-loop μ-loop
+loop-less c = search needs
+
+loop-again : tie.Need-loop-again Inv-loop μ-loop
+loop-again c = (omega arith, below-more _ _ (c .before .before .before .before .loop .inv .1) (sym (c .before .bars .ensures) ∙ c .if1 .left))
+
+returns-2 : tie.Need-returns-2 Inv-loop μ-loop
+unfolding holderPlace
+returns-2 c =
+    let args = c .before .before .args in
+    end-none (λ i. isBarred (args .job) (args .folder) (ticketAt (args .t1) i)) _ (c .before .loop .inv .0) (c .loop-test .left) (c .before .loop .inv .1)
+
+pub holder-place-spec : {M : Type 1} → statement M
+holder-place-spec =
+    tie.close
+    (tie.spec
+    Inv-loop
+    μ-loop
+    loop-holds
+    cast-place
+    mul-bars
+    element-copy-out-bars
+    bars-requires
+    returns
+    add-k
+    loop-less
+    loop-again
+    returns-2)
