@@ -3,7 +3,7 @@
 
 use crate::bench::{Bench, Register};
 use crate::catalogue;
-use crate::desk::{Desk, Opened, Request, Ticket};
+use crate::desk::{Closed, Desk, Opened, Request, Ticket};
 use crate::lanes::Lanes;
 use crate::receiver::{Fed, Receiver};
 use crate::remainder::remainder;
@@ -11,6 +11,7 @@ use crate::sheet::{self, Head, Setting};
 use crate::telegram::{self, Message, No, Refusal};
 use crate::values;
 use crate::varia::{self, Closing, Edge, Out, Shown, Varia, Wish};
+use std::fmt::Display;
 
 /// The longest line, its newline not counted, that is still a call.
 pub const LONGEST_LINE: usize = 65536;
@@ -225,12 +226,11 @@ fn parse_message(words: &mut Words) -> Option<Message> {
     Some(Message { dest, source, type_no, register, data: words.bytes()? })
 }
 
-/// JOB MODULE TYPE REG DATA WAIT FOLDER of a request that is to wait, with no clock yet; the folder must parse and is
-/// passed over.
+/// JOB MODULE TYPE REG DATA WAIT FOLDER of a request that is to wait, with no clock yet.
 fn parse_waiting(words: &mut Words) -> Option<Request> {
     let (job, module, type_no, register) = (words.number()?, words.byte()?, words.byte()?, words.byte()?);
-    let (data, wait, _folder) = (words.bytes()?, words.number()?, words.number()?);
-    Some(Request { job, module, type_no, register, data, wait, clock: 0 })
+    let (data, wait, folder) = (words.bytes()?, words.number()?, words.number()?);
+    Some(Request { job, module, type_no, register, data, wait, folder, clock: 0 })
 }
 
 /// The same and CLOCK, of an opening.
@@ -365,30 +365,30 @@ impl Rehearsal {
     }
 
     /// Books a reply at the desk and tells the box.
-    fn reply(&mut self, frame: &[u8], room: usize) -> Result<(u32, Message), Refusal> {
-        let (job, reply) = self.desk.reply(frame, room)?;
-        self.tell(reply.dest, Closing::Booked(reply.type_no));
-        Ok((job, reply))
+    fn reply(&mut self, frame: &[u8], room: usize) -> Result<(Closed, Message), Refusal> {
+        let (closed, reply) = self.desk.reply(frame, room)?;
+        self.tell(closed.address, Closing::Booked(reply.type_no));
+        Ok((closed, reply))
     }
 
     /// Cancels a ticket at the desk and tells the box.
-    fn cancel(&mut self, job: u32, address: u8, clock: u32) -> Result<(u32, u8), No> {
-        self.desk.cancel(job, address, clock)?;
+    fn cancel(&mut self, job: u32, address: u8, clock: u32) -> Result<Closed, No> {
+        let closed = self.desk.cancel(job, address, clock)?;
         self.tell(address, Closing::Lost);
-        Ok((job, address))
+        Ok(closed)
     }
 
     /// Lets a ticket expire at the desk and tells the box.
-    fn expire(&mut self, clock: u32) -> Result<(u32, u8), No> {
-        let (job, address) = self.desk.expire(clock)?;
-        self.tell(address, Closing::Lost);
-        Ok((job, address))
+    fn expire(&mut self, clock: u32) -> Result<Closed, No> {
+        let closed = self.desk.expire(clock)?;
+        self.tell(closed.address, Closing::Lost);
+        Ok(closed)
     }
 
     /// Lets everything due expire at the desk, as far as the list has room, and tells the box of each.
-    fn expire_all(&mut self, clock: u32, room: usize) -> Vec<(u32, u8)> {
+    fn expire_all(&mut self, clock: u32, room: usize) -> Vec<Closed> {
         let expired = self.desk.expire_all(clock, room);
-        expired.iter().for_each(|(_, address)| self.tell(*address, Closing::Lost));
+        expired.iter().for_each(|closed| self.tell(closed.address, Closing::Lost));
         expired
     }
 
@@ -429,15 +429,19 @@ fn ok(fields: String) -> String {
     }
 }
 
-/// `ok` and its fields, or `no` and its number, with its place or its count where it has one.
+/// `ok` and its fields, or `no` and its number, with its place, its job and its count where it has one.
 fn plain(result: Result<String, impl Into<Refusal>>) -> String {
     match result.map_err(Into::into) {
         Ok(fields) => ok(fields),
-        Err(Refusal { no, place, count }) => {
-            let told = |name: &str, number: Option<usize>| number.map_or(String::new(), |it| format!(" {name}={it}"));
-            format!("no {no}{}{}", told("place", place), told("count", count))
+        Err(Refusal { no, place, job, count }) => {
+            format!("no {no}{}{}{}", told("place", place), told("job", job), told("count", count))
         }
     }
+}
+
+/// A field of a refusal, where it has one.
+fn told(name: &str, number: Option<impl Display>) -> String {
+    number.map_or(String::new(), |number| format!(" {name}={number}"))
 }
 
 /// The same for a call with a lent buffer: what it hands over goes to the first bytes, a refusal touches none.
@@ -502,26 +506,28 @@ fn granted_fields((job, opened): (u32, Opened)) -> (String, Vec<u8>) {
 /// The lane last served, and what waits in each lane, the oldest first.
 fn lanes_fields(lanes: &Lanes) -> String {
     let shown = |request: &Request| {
-        let Request { job, module, type_no, register, data, wait, .. } = request;
-        format!("{job}:{module}:{type_no}:{register}:{}:{wait}", hex(data))
+        let Request { job, module, type_no, register, data, wait, folder, .. } = request;
+        format!("{job}:{module}:{type_no}:{register}:{}:{wait}:{folder}", hex(data))
     };
     let each: Vec<String> = lanes.lanes.iter().map(|lane| list(lane.iter().map(shown).collect())).collect();
     format!("last={} lanes={}", lanes.last, each.join("|"))
 }
 
 /// The fields of a booked reply, and its data for the buffer.
-fn reply_fields((job, reply): (u32, Message)) -> (String, Vec<u8>) {
-    (format!("job={job} address={} type={} n={}", reply.dest, reply.type_no, reply.data.len()), reply.data)
+fn reply_fields((Closed { job, address, folder }, reply): (Closed, Message)) -> (String, Vec<u8>) {
+    let Message { type_no, data, .. } = reply;
+    (format!("job={job} address={address} type={type_no} n={} folder={folder}", data.len()), data)
 }
 
 /// The fields of a ticket that was cancelled or expired.
-fn closed_fields((job, address): (u32, u8)) -> String {
-    format!("job={job} address={address}")
+fn closed_fields(Closed { job, address, folder }: Closed) -> String {
+    format!("job={job} address={address} folder={folder}")
 }
 
 /// How many tickets expired, and the list of so many entries after it: theirs, then `.` for each entry that stayed.
-fn expired_fields(expired: &[(u32, u8)], room: usize) -> String {
-    let mut entries: Vec<String> = expired.iter().map(|(job, address)| format!("{job}:{address}")).collect();
+fn expired_fields(expired: &[Closed], room: usize) -> String {
+    let shown = |Closed { job, address, folder }: &Closed| format!("{job}:{address}:{folder}");
+    let mut entries: Vec<String> = expired.iter().map(shown).collect();
     entries.resize(room, ".".to_string());
     format!("n={} list={}", expired.len(), list(entries))
 }
@@ -538,8 +544,8 @@ fn bench_fields(bench: &Bench) -> String {
 /// The desk's turn, its tickets, and the addresses without one whose last was cancelled or expired, by rising address.
 fn desk_fields(desk: &Desk) -> String {
     let shown = |(address, ticket): (&u8, &Ticket)| {
-        let Ticket { job, module, type_no, register, wait, opened } = ticket;
-        format!("{address}:{job}:{module}:{type_no}:{register}:{wait}:{opened}")
+        let Ticket { job, module, type_no, register, wait, opened, folder } = ticket;
+        format!("{address}:{job}:{module}:{type_no}:{register}:{wait}:{opened}:{folder}")
     };
     let tickets = list(desk.tickets.iter().map(shown).collect());
     let closed = list(desk.closed.iter().map(|(address, clock)| format!("{address}:{clock}")).collect());

@@ -150,7 +150,7 @@ fn exchange(line: &mut Line) -> Vec<u8> {
         traffic.extend(reply);
         return traffic;
     }
-    line.desk.cancel(request.job, address, line.clock).map_or_else(|_| Vec::new(), |()| traffic)
+    line.desk.cancel(request.job, address, line.clock).map_or_else(|_| Vec::new(), |_| traffic)
 }
 
 /// A request for a module, of a size that fits some of its registers.
@@ -158,7 +158,7 @@ fn request(random: &mut Random, module: u8, clock: u32) -> Request {
     let type_no = random.pick(&[4, 4, 4, 5, 6, 7, 9]);
     let length = if type_no == 4 { 0 } else { random.pick(&[1, 2, 4, 8]) };
     let (job, register, data) = (random.between(1, 40) as u32, random.pick(&REGISTERS), data(random, length));
-    Request { job, module, type_no, register, data, wait: 100, clock }
+    Request { job, module, type_no, register, data, wait: 100, folder: 0, clock }
 }
 
 /// Bytes outside of any order.

@@ -3,10 +3,12 @@
 use crate::calls::lines;
 use crate::dues::Dues;
 use crate::filters::Filters;
+use crate::folders::Folders;
 use crate::looks::Looks;
 use crate::places::Places;
 use crate::rests::{opens, Rests};
 use crate::sheets::Sheets;
+use crate::subject::Subject;
 use crate::telegram::No;
 use crate::turns::Turns;
 use std::collections::BTreeMap;
@@ -25,14 +27,14 @@ const ORDERS: [(&str, &[No]); 37] = [
     ("bench.tele", &[1, 2, 3, 4, 5, 7, 8, 9, 35, 36, 37]),
     ("bench.dump", &[]),
     ("desk.new", &[]),
-    ("desk.open", &[10, 11, 12, 13, 14, 15, 16]),
+    ("desk.open", &[10, 11, 12, 13, 14, 75, 15, 16]),
     ("desk.reply", &[1, 2, 3, 4, 5, 6, 7, 8, 9, 61, 17, 18, 19, 20]),
     ("desk.cancel", &[21]),
     ("desk.expire", &[22]),
     ("desk.expall", &[]),
     ("desk.dump", &[]),
     ("lane.join", &[10, 11, 12, 13, 14, 71, 72]),
-    ("lane.grant", &[73, 74, 15]),
+    ("lane.grant", &[73, 74, 75, 15]),
     ("lane.withdraw", &[55]),
     ("lane.dump", &[]),
     ("varia.new", &[]),
@@ -53,6 +55,17 @@ const ORDERS: [(&str, &[No]); 37] = [
 ];
 /// The lines that must also have been said of frames which lie in more than one chunk.
 const OVER_BORDERS: [&str; 4] = ["ok", "refused 5", "dropped", "open"];
+/// What is told of each subject, from a script's calls and answers.
+const SUBJECTS: [fn(&[&[u8]], &[&[u8]]) -> (String, Vec<String>); 8] = [
+    Rests::report,
+    Filters::report,
+    Places::report,
+    Sheets::report,
+    Dues::report,
+    Looks::report,
+    Turns::report,
+    Folders::report,
+];
 /// Stands for a line that begins with the name of no call.
 const NO_CALL: &str = "(no call)";
 
@@ -76,11 +89,13 @@ fn name(line: &[u8]) -> &'static str {
 }
 
 /// The way an answer line answers a call of this name. Number 3 has a place, and no other number has one. An opening
-/// has a count, and so have its numbers 10 to 16, but no other number.
+/// has a count, and so have its numbers 10 to 16 and 75, but no other number. Of the numbers only a grant's 75 has a
+/// job. A closing has a folder, and no other answer has one.
 fn way(name: &str, answer: &[u8]) -> Way {
     let text = String::from_utf8_lossy(answer);
     let words: Vec<&str> = text.split(' ').collect();
     let has = |field: &str| words.iter().any(|word| word.starts_with(field));
+    let closes = ["desk.reply", "desk.cancel", "desk.expire"].contains(&name);
     let way = match words[..] {
         ["bad", "line"] => Way::BadLine,
         ["no", "bench"] => Way::NoBench,
@@ -92,7 +107,9 @@ fn way(name: &str, answer: &[u8]) -> Way {
     match way {
         Way::Ok if opens(name) && !has("count=") => Way::Unknown,
         Way::No(no) if has("place=") != (no == 3) => Way::Unknown,
-        Way::No(no) if has("count=") != (opens(name) && (10..=16).contains(&no)) => Way::Unknown,
+        Way::No(no) if has("count=") != (opens(name) && matches!(no, 10..=16 | 75)) => Way::Unknown,
+        Way::No(no) if has("job=") != (name == "lane.grant" && no == 75) => Way::Unknown,
+        way if has("folder=") != (closes && way == Way::Ok) => Way::Unknown,
         way => way,
     }
 }
@@ -111,27 +128,17 @@ pub fn count(script: &[u8], answers: &[u8]) -> (String, bool) {
     let over_borders = Chunks::of(&calls, &answers).times;
     let never = OVER_BORDERS.iter().zip(over_borders).filter(|(_, times)| *times == 0);
     complaints.extend(never.map(|(line, _)| format!("over chunk borders: {line} never occurred")));
-    let rests = Rests::of(&calls, &answers);
-    complaints.extend(rests.missing());
-    let filters = Filters::of(&calls, &answers);
-    complaints.extend(filters.missing());
-    let places = Places::of(&calls, &answers);
-    complaints.extend(places.missing());
-    let sheets = Sheets::of(&calls, &answers);
-    complaints.extend(sheets.missing());
-    let dues = Dues::of(&calls, &answers);
-    complaints.extend(dues.missing());
-    let looks = Looks::of(&calls, &answers);
-    complaints.extend(looks.missing());
-    let turns = Turns::of(&calls, &answers);
-    complaints.extend(turns.missing());
+    let mut of_subjects = String::new();
+    for report in SUBJECTS {
+        let (lines, missing) = report(&calls, &answers);
+        of_subjects += &lines;
+        complaints.extend(missing);
+    }
     if calls.len() != answers.len() {
         complaints.push(format!("{} calls but {} answers", calls.len(), answers.len()));
     }
     let told: String = complaints.iter().map(|line| format!("{line}\n")).collect();
-    let of_subjects =
-        [rests.lines(), filters.lines(), places.lines(), sheets.lines(), dues.lines(), looks.lines(), turns.lines()];
-    (table(&counts) + &borders_line(over_borders) + &of_subjects.concat() + &told, complaints.is_empty())
+    (table(&counts) + &borders_line(over_borders) + &of_subjects + &told, complaints.is_empty())
 }
 
 /// What calls and answers tell of the chunks: the place of the next byte, where the latest chunk of any bytes began,

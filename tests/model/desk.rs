@@ -19,6 +19,8 @@ pub struct Request {
     pub register: u8,
     pub data: Vec<u8>,
     pub wait: u32,
+    /// The output folder, 0 for none.
+    pub folder: u32,
     pub clock: u32,
 }
 
@@ -30,6 +32,7 @@ pub struct Ticket {
     pub type_no: u8,
     pub register: u8,
     pub wait: u32,
+    pub folder: u32,
     pub opened: u32,
 }
 
@@ -39,6 +42,13 @@ pub struct Opened {
     pub address: u8,
     pub telegram: Vec<u8>,
     pub count: usize,
+}
+
+/// What a closing answers of its ticket.
+pub struct Closed {
+    pub job: u32,
+    pub address: u8,
+    pub folder: u32,
 }
 
 #[derive(Clone)]
@@ -91,12 +101,18 @@ impl Request {
             type_no: self.type_no,
             register: self.register,
             wait: self.wait,
+            folder: self.folder,
             opened: self.clock,
         }
     }
 }
 
 impl Ticket {
+    /// What is answered when it is closed; it was open on this address.
+    fn closed(&self, address: u8) -> Closed {
+        Closed { job: self.job, address, folder: self.folder }
+    }
+
     /// Due when the ticket's age is at least its waiting time.
     pub fn is_due(&self, clock: u32) -> bool {
         age(clock, self.opened) >= self.wait
@@ -135,16 +151,25 @@ impl Desk {
         !self.tickets.contains_key(&address) && !self.rests(address, clock)
     }
 
+    /// Whether an open ticket of another job has the folder of this request, if it has one. Neither what waits in the
+    /// lanes nor an address that rests holds a folder.
+    fn is_held(&self, request: &Request) -> bool {
+        let is_held = |ticket: &Ticket| ticket.folder == request.folder && ticket.job != request.job;
+        request.folder != 0 && self.tickets.values().any(is_held)
+    }
+
     /// Closes the ticket on an address without a reply: the address rests from this clock on.
     fn close(&mut self, address: u8, clock: u32) {
         self.tickets.remove(&address);
         self.closed.insert(address, clock);
     }
 
-    /// Opens a ticket for a buffer with this room: 10 to 16, each with the count of addresses that were considered:
-    /// none for a wrong request, all where none is free, and with 16 those up to the one that would have been given.
+    /// Opens a ticket for a buffer with this room: 10 to 14, 75, 15, 16, each with the count of addresses that were
+    /// considered: none for a wrong request or a folder that another job holds, all where none is free, and with 16
+    /// those up to the one that would have been given.
     pub fn open(&mut self, request: &Request, room: usize) -> Result<Opened, Refusal> {
-        request.check().map_err(|no| counted(no, 0))?;
+        let refused = request.check().and(lowest(&[(75, self.is_held(request))]));
+        refused.map_err(|no| counted(no, 0))?;
         let round = self.round();
         let free = round.iter().position(|address| self.is_free(*address, request.clock));
         let place = free.ok_or(counted(15, round.len()))?;
@@ -158,8 +183,8 @@ impl Desk {
     }
 
     /// Books a reply, with this room for its data: 1 to 9, 3 with its place, then 61 or 17, then 18 to 20. Answers
-    /// the job and the reply. The address is free at once.
-    pub fn reply(&mut self, frame: &[u8], room: usize) -> Result<(u32, Message), Refusal> {
+    /// the reply too. The address is free at once.
+    pub fn reply(&mut self, frame: &[u8], room: usize) -> Result<(Closed, Message), Refusal> {
         let reply = telegram::read(frame, room)?;
         let without = if self.closed.contains_key(&reply.dest) { 61u32 } else { 17 };
         let ticket = self.tickets.get(&reply.dest).ok_or(without)?;
@@ -168,36 +193,35 @@ impl Desk {
             (19, !ticket.kind_fits(&reply)),
             (20, !ticket.register_fits(&reply)),
         ])?;
-        let job = ticket.job;
+        let closed = ticket.closed(reply.dest);
         self.tickets.remove(&reply.dest);
-        Ok((job, reply))
+        Ok((closed, reply))
     }
 
     /// Closes the ticket that is open on the address for that job now, or 21; the address rests from the call's
     /// clock on.
-    pub fn cancel(&mut self, job: u32, address: u8, clock: u32) -> Result<(), No> {
-        let held = self.tickets.get(&address).map_or(false, |ticket| ticket.job == job);
-        lowest(&[(21, !held)])?;
+    pub fn cancel(&mut self, job: u32, address: u8, clock: u32) -> Result<Closed, No> {
+        let held = self.tickets.get(&address).filter(|ticket| ticket.job == job);
+        let closed = held.map(|ticket| ticket.closed(address)).ok_or(21u32)?;
         self.close(address, clock);
-        Ok(())
+        Ok(closed)
     }
 
-    /// Closes the due ticket with the lowest address and answers job and address, or 22; the address rests from
-    /// the call's clock on.
-    pub fn expire(&mut self, clock: u32) -> Result<(u32, u8), No> {
+    /// Closes the due ticket with the lowest address, or 22; the address rests from the call's clock on.
+    pub fn expire(&mut self, clock: u32) -> Result<Closed, No> {
         let due = self.tickets.iter().find(|(_, ticket)| ticket.is_due(clock));
-        let (job, address) = due.map(|(address, ticket)| (ticket.job, *address)).ok_or(22u32)?;
-        self.close(address, clock);
-        Ok((job, address))
+        let closed = due.map(|(address, ticket)| ticket.closed(*address)).ok_or(22u32)?;
+        self.close(closed.address, clock);
+        Ok(closed)
     }
 
-    /// Closes all due tickets, or the first of them by address where a list of so many entries has no room for all, and
-    /// answers job and address of each by rising address; they all rest from the call's clock on. The papers tell it by
-    /// single expiries, which `expiries` holds this against.
-    pub fn expire_all(&mut self, clock: u32, room: usize) -> Vec<(u32, u8)> {
+    /// Closes all due tickets by rising address, or the first of them where a list of so many entries has no room for
+    /// all; they all rest from the call's clock on. The papers tell it by single expiries, which `expiries` holds this
+    /// against.
+    pub fn expire_all(&mut self, clock: u32, room: usize) -> Vec<Closed> {
         let due = self.tickets.iter().filter(|(_, ticket)| ticket.is_due(clock));
-        let expired: Vec<(u32, u8)> = due.take(room).map(|(address, ticket)| (ticket.job, *address)).collect();
-        expired.iter().for_each(|(_, address)| self.close(*address, clock));
+        let expired: Vec<Closed> = due.take(room).map(|(address, ticket)| ticket.closed(*address)).collect();
+        expired.iter().for_each(|closed| self.close(closed.address, clock));
         expired
     }
 }

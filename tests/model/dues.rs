@@ -5,6 +5,7 @@ use crate::calls::MOST_ENTRIES;
 use crate::desk::{age, HOSTS};
 use crate::queue::Queue;
 use crate::rests::{field, opens, parsed};
+use crate::subject::{Subject, Times, Wanted};
 use std::collections::BTreeMap;
 
 /// What must have been met in each of the rooms that matter: some tickets and none of them due, some of them, all 95.
@@ -53,47 +54,15 @@ pub struct Dues {
     /// The clock of the latest of these calls that had an entry to fill, if no ticket was opened, booked or cancelled
     /// since.
     latest: Option<u32>,
-    times: BTreeMap<(&'static str, &'static str), usize>,
+    times: Times,
 }
 
-impl Dues {
-    /// The expiries of a whole script.
-    pub fn of(calls: &[&[u8]], answers: &[&[u8]]) -> Dues {
-        let (tickets, times) = (BTreeMap::new(), BTreeMap::new());
-        let mut dues = Dues { tickets, queue: Queue::new(), latest: None, times };
-        for (call, answer) in calls.iter().zip(answers) {
-            dues.hear(&String::from_utf8_lossy(call), &String::from_utf8_lossy(answer));
-        }
-        dues
-    }
+impl Subject for Dues {
+    const NAME: &'static str = "expall, ";
+    const WANTED: Wanted = &WANTED;
 
-    /// One line for each head, with how often each thing was met.
-    pub fn lines(&self) -> String {
-        let times = |head, thing| self.times.get(&(head, thing)).copied().unwrap_or(0);
-        let line = |(head, things): &(&'static str, &[&'static str])| {
-            let each: String = things.iter().map(|thing| format!("  {thing}:{}", times(*head, *thing))).collect();
-            format!("expall, {head}{each}\n")
-        };
-        WANTED.iter().map(line).collect()
-    }
-
-    /// What should have been met and never was.
-    pub fn missing(&self) -> Vec<String> {
-        let all = WANTED.iter().flat_map(|(head, things)| things.iter().map(move |thing| (*head, *thing)));
-        let never = all.filter(|met| !self.times.contains_key(met));
-        never.map(|(head, thing)| format!("expall, {head}: {thing} never occurred")).collect()
-    }
-
-    /// Counts a thing where it was met, under the head and by the name it is wanted by; what is not wanted goes
-    /// uncounted.
-    fn count_if(&mut self, is_met: bool, head: &str, thing: &str) {
-        let found = WANTED.iter().find(|(wanted, _)| *wanted == head).and_then(|(head, things)| {
-            let thing = things.iter().find(|wanted| **wanted == thing)?;
-            Some((*head, *thing))
-        });
-        if let Some(met) = found.filter(|_| is_met) {
-            *self.times.entry(met).or_default() += 1;
-        }
+    fn fresh() -> Dues {
+        Dues { tickets: BTreeMap::new(), queue: Queue::new(), latest: None, times: Times::new() }
     }
 
     /// Hears of a call and its answer; only calls on the desk, the box's and grants too, have something to tell.
@@ -130,6 +99,12 @@ impl Dues {
         }
     }
 
+    fn times(&mut self) -> &mut Times {
+        &mut self.times
+    }
+}
+
+impl Dues {
     /// A ticket was opened on this address, which none of those that just expired had.
     fn opened(&mut self, address: u8, wait: u32, clock: u32) {
         self.count_if(self.latest == Some(clock), "next", "another address");
@@ -198,8 +173,29 @@ impl Dues {
     }
 }
 
-/// The addresses in the list of an answer, in their order.
-pub fn expired(answer: &str) -> Vec<u8> {
+/// The entries that were filled in the list of an answer, in their order: job, address and folder.
+pub fn entries(answer: &str) -> Vec<(u32, u8, u32)> {
     let entries = answer.split(' ').find_map(|word| word.strip_prefix("list=")).unwrap_or("");
-    entries.split(',').filter_map(|entry| entry.split_once(':')?.1.parse().ok()).collect()
+    let parsed = |entry: &str| match entry.split(':').collect::<Vec<&str>>()[..] {
+        [job, address, folder] => Some((job.parse().ok()?, address.parse().ok()?, folder.parse().ok()?)),
+        _ => None,
+    };
+    entries.split(',').filter_map(parsed).collect()
+}
+
+/// The addresses in that list.
+pub fn expired(answer: &str) -> Vec<u8> {
+    entries(answer).into_iter().map(|(_, address, _)| address).collect()
+}
+
+/// The way in which a call of this name closed tickets, and their addresses; none where it closed nothing.
+pub fn closed(name: &str, answer: &str) -> (&'static str, Vec<u8>) {
+    let way = match name {
+        "desk.reply" => "booked",
+        "desk.cancel" => "cancelled",
+        "desk.expire" => "expired",
+        "desk.expall" => return ("expired by expall", expired(answer)),
+        _ => return ("", Vec::new()),
+    };
+    (way, field(answer, "address=").into_iter().collect())
 }

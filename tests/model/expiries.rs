@@ -43,7 +43,7 @@ fn one_by_one(rehearsal: &mut Rehearsal, clock: u32, room: usize) -> String {
     while list.len() < room {
         let answer = rehearsal.answer(format!("desk.expire {clock}").as_bytes());
         match answer.strip_prefix("ok job=") {
-            Some(fields) => list.push(fields.replace(" address=", ":")),
+            Some(fields) => list.push(fields.replace(" address=", ":").replace(" folder=", ":")),
             None => break,
         }
     }

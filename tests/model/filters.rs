@@ -3,7 +3,8 @@
 
 use crate::desk::age;
 use crate::dues::expired;
-use std::collections::{BTreeMap, BTreeSet};
+use crate::subject::{Subject, Times, Wanted};
+use std::collections::BTreeSet;
 
 /// What must have been met of either edge: each end of its request, with the edge unknown before and known.
 const ENDS: [&str; 14] = [
@@ -96,45 +97,15 @@ pub struct Filters {
     /// The addresses of edge requests that a box before this one left open, and of those that were cancelled or expired.
     old: BTreeSet<u8>,
     lost: BTreeSet<u8>,
-    times: BTreeMap<(&'static str, &'static str), usize>,
+    times: Times,
 }
 
-impl Filters {
-    /// The box of a whole script.
-    pub fn of(calls: &[&[u8]], answers: &[&[u8]]) -> Filters {
-        let mut filters = Filters::default();
-        for (call, answer) in calls.iter().zip(answers) {
-            filters.hear(&String::from_utf8_lossy(call), &String::from_utf8_lossy(answer));
-        }
-        filters
-    }
+impl Subject for Filters {
+    const NAME: &'static str = "box, ";
+    const WANTED: Wanted = &WANTED;
 
-    /// One line for each head, with how often each thing was met.
-    pub fn lines(&self) -> String {
-        let times = |head, thing| self.times.get(&(head, thing)).copied().unwrap_or(0);
-        let line = |(head, things): &(&'static str, &[&'static str])| {
-            let each: String = things.iter().map(|thing| format!("  {thing}:{}", times(*head, *thing))).collect();
-            format!("box, {head}{each}\n")
-        };
-        WANTED.iter().map(line).collect()
-    }
-
-    /// What should have been met and never was.
-    pub fn missing(&self) -> Vec<String> {
-        let all = WANTED.iter().flat_map(|(head, things)| things.iter().map(move |thing| (*head, *thing)));
-        let never = all.filter(|met| !self.times.contains_key(met));
-        never.map(|(head, thing)| format!("box, {head}: {thing} never occurred")).collect()
-    }
-
-    /// Counts a thing that was met, under the head and by the name it is wanted by; what is not wanted goes uncounted.
-    fn count(&mut self, head: &str, thing: &str) {
-        let found = WANTED.iter().find(|(wanted, _)| *wanted == head).and_then(|(head, things)| {
-            let thing = things.iter().find(|wanted| **wanted == thing)?;
-            Some((*head, *thing))
-        });
-        if let Some(met) = found {
-            *self.times.entry(met).or_default() += 1;
-        }
+    fn fresh() -> Filters {
+        Filters::default()
     }
 
     /// Hears of a call and its answer.
@@ -172,6 +143,12 @@ impl Filters {
         }
     }
 
+    fn times(&mut self) -> &mut Times {
+        &mut self.times
+    }
+}
+
+impl Filters {
     /// A fresh desk has no box: only the counts stay.
     fn forget(&mut self) {
         let times = std::mem::take(&mut self.times);

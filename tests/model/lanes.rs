@@ -51,16 +51,21 @@ impl Lanes {
     }
 
     /// Opens the oldest request of the first lane after the one last served with something waiting, going round, at
-    /// this clock and for a buffer with this room: 73, 74, then the desk's 15. Answers its job too.
+    /// this clock and for a buffer with this room: 73, 74, then the desk's 75 or 15. Answers its job too. With 75 the
+    /// request is taken out all the same and its lane was served; 15 leaves both.
     pub fn grant(&mut self, desk: &mut Desk, clock: u32, room: usize) -> Result<(u32, Opened), Refusal> {
         lowest(&[(73, room < LONGEST_TELEGRAM)])?;
         let order = (self.last + 1..=LANES).chain(1..=self.last);
         let number = self.find(order, |lane| !lane.is_empty()).ok_or(74u32)?;
         let request = Request { clock, ..self.lane(number)[0].clone() };
-        let opened = desk.open(&request, room)?;
+        let granted = match desk.open(&request, room) {
+            Err(refusal) if refusal.no == 75 => Err(Refusal { job: Some(request.job), ..refusal }),
+            Err(refusal) => return Err(refusal),
+            Ok(opened) => Ok((request.job, opened)),
+        };
         self.lane(number).remove(0);
         self.last = number;
-        Ok((request.job, opened))
+        granted
     }
 
     /// Takes the request of a job at this place in its lane away, or 55; later ones move up.

@@ -4,6 +4,7 @@
 use crate::desk::{age, FIRST_HOST, HOSTS, LAST_HOST, REST};
 use crate::dues::expired;
 use crate::rests::{field, opens, parsed};
+use crate::subject::{Subject, Times, Wanted};
 use std::collections::{BTreeMap, BTreeSet};
 
 /// What must have been met of an address that was given, and likewise of one that would have been, with 16.
@@ -21,14 +22,23 @@ const FOUND: [&str; 12] = [
     "94 open",
     "94 resting",
 ];
-/// What must have been met of a refusal that considers no address.
+/// What must have been met of a refusal that considers no address; there is no 75 on an empty desk.
 const NONE: [&str; 3] = ["on an empty desk", "some free", "none free"];
 /// What must have been met of each call of the box's that opens.
 const BOX: [&str; 5] = ["1", "more", "16 with 1", "16 with more", "15"];
 /// What must have been met of grants.
-const GRANT: [&str; 6] = ["1", "more", "past resting ones", "15 all open", "15 all resting", "15 open and resting"];
-/// What must have been met, under fourteen heads.
-const WANTED: [(&str, &[&str]); 14] = [
+const GRANT: [&str; 8] = [
+    "1",
+    "more",
+    "past resting ones",
+    "75 some free",
+    "75 none free",
+    "15 all open",
+    "15 all resting",
+    "15 open and resting",
+];
+/// What must have been met, under fifteen heads.
+const WANTED: [(&str, &[&str]); 15] = [
     ("given", &FOUND),
     ("16", &FOUND),
     ("15", &["all open", "all resting", "open and resting"]),
@@ -37,6 +47,7 @@ const WANTED: [(&str, &[&str]); 14] = [
     ("12", &NONE),
     ("13", &NONE),
     ("14", &NONE),
+    ("75", &["some free", "none free"]),
     ("varia.short", &BOX),
     ("varia.long", &BOX),
     ("varia.att", &BOX),
@@ -54,58 +65,22 @@ pub struct Looks {
     open: BTreeSet<u8>,
     /// The addresses whose last ticket was cancelled or expired, with the clock of that closing.
     closed: BTreeMap<u8, u32>,
-    times: BTreeMap<(&'static str, &'static str), usize>,
+    times: Times,
     wrong: Vec<String>,
 }
 
-impl Looks {
+impl Subject for Looks {
+    const NAME: &'static str = "count, ";
+    const WANTED: Wanted = &WANTED;
+
     /// A fresh desk, nothing met.
-    fn new() -> Looks {
+    fn fresh() -> Looks {
         Looks {
             turn: FIRST_HOST,
             open: BTreeSet::new(),
             closed: BTreeMap::new(),
-            times: BTreeMap::new(),
+            times: Times::new(),
             wrong: Vec::new(),
-        }
-    }
-
-    /// The openings of a whole script.
-    pub fn of(calls: &[&[u8]], answers: &[&[u8]]) -> Looks {
-        let mut looks = Looks::new();
-        for (call, answer) in calls.iter().zip(answers) {
-            looks.hear(&String::from_utf8_lossy(call), &String::from_utf8_lossy(answer));
-        }
-        looks
-    }
-
-    /// One line for each head, with how often each thing was met.
-    pub fn lines(&self) -> String {
-        let times = |head, thing| self.times.get(&(head, thing)).copied().unwrap_or(0);
-        let line = |(head, things): &(&'static str, &[&'static str])| {
-            let each: String = things.iter().map(|thing| format!("  {thing}:{}", times(*head, *thing))).collect();
-            format!("count, {head}{each}\n")
-        };
-        WANTED.iter().map(line).collect()
-    }
-
-    /// What should have been met and never was, and the counts that are wrong.
-    pub fn missing(&self) -> Vec<String> {
-        let all = WANTED.iter().flat_map(|(head, things)| things.iter().map(move |thing| (*head, *thing)));
-        let never = all.filter(|met| !self.times.contains_key(met));
-        let never = never.map(|(head, thing)| format!("count, {head}: {thing} never occurred"));
-        never.chain(self.wrong.iter().cloned()).collect()
-    }
-
-    /// Counts a thing where it was met, under the head and by the name it is wanted by; what is not wanted goes
-    /// uncounted.
-    fn count_if(&mut self, is_met: bool, head: &str, thing: &str) {
-        let found = WANTED.iter().find(|(wanted, _)| *wanted == head).and_then(|(head, things)| {
-            let thing = things.iter().find(|wanted| **wanted == thing)?;
-            Some((*head, *thing))
-        });
-        if let Some(met) = found.filter(|_| is_met) {
-            *self.times.entry(met).or_default() += 1;
         }
     }
 
@@ -118,7 +93,7 @@ impl Looks {
         match (&words[..], field(answer, "address=")) {
             (["desk.new"], _) => {
                 let (times, wrong) = (std::mem::take(&mut self.times), std::mem::take(&mut self.wrong));
-                *self = Looks { times, wrong, ..Looks::new() };
+                *self = Looks { times, wrong, ..Looks::fresh() };
             }
             ([name, .., clock, _], given) if opens(name) => self.asked(name, parsed(clock), given, answer),
             (["desk.reply", ..], Some(address)) => {
@@ -134,6 +109,16 @@ impl Looks {
         }
     }
 
+    fn times(&mut self) -> &mut Times {
+        &mut self.times
+    }
+
+    fn faults(&self) -> Vec<String> {
+        self.wrong.clone()
+    }
+}
+
+impl Looks {
     /// A ticket was cancelled or expired.
     fn close(&mut self, address: u8, clock: u32) {
         self.open.remove(&address);
@@ -154,7 +139,7 @@ impl Looks {
         let distance = |given: u8| (i32::from(given) - i32::from(self.turn)).rem_euclid(i32::from(HOSTS)) as u8;
         let right = match (no, given) {
             (None, Some(given)) => Some(distance(given) + 1),
-            (Some("10" | "11" | "12" | "13" | "14"), _) => Some(0),
+            (Some("10" | "11" | "12" | "13" | "14" | "75"), _) => Some(0),
             (Some("15"), _) => Some(HOSTS),
             (Some("16"), _) => Some(passed.len() as u8 + 1),
             _ => None,
@@ -188,10 +173,13 @@ impl Looks {
                 self.count_if(true, name, &format!("15 {thing}"));
             }
             Some(no) => {
-                let is_none_free = passed.len() == usize::from(HOSTS);
-                self.count_if(self.is_empty(), no, "on an empty desk");
-                self.count_if(!self.is_empty() && !is_none_free, no, "some free");
-                self.count_if(is_none_free, no, "none free");
+                let thing = match passed.len() == usize::from(HOSTS) {
+                    true => "none free",
+                    false if self.is_empty() => "on an empty desk",
+                    false => "some free",
+                };
+                self.count_if(true, no, thing);
+                self.count_if(true, name, &format!("{no} {thing}"));
             }
         }
         self.count_if(no.is_none(), name, if count == 1 { "1" } else { "more" });

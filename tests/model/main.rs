@@ -1,5 +1,6 @@
 //! The model: a plain reading of the lab's papers, against which the proved library is tested.
 
+mod accident;
 mod bench;
 mod calls;
 mod capture;
@@ -13,6 +14,8 @@ mod expiries;
 mod fair;
 mod faults;
 mod filters;
+mod folders;
+mod holders;
 mod lanes;
 mod listing;
 mod looks;
@@ -25,6 +28,7 @@ mod rests;
 mod script;
 mod sheet;
 mod sheets;
+mod subject;
 mod telegram;
 mod turns;
 mod values;
@@ -35,7 +39,7 @@ use std::io::{self, Read, Write};
 use std::process::ExitCode;
 
 const USAGE: &str = "usage: model answer | script SEED CALLS | count SCRIPT ANSWERS | cuts | list | capture SEED | \
-chunks SEED CAPTURES | expiries SEED DESKS | lanes SEED RUNS | vectors";
+chunks SEED CAPTURES | expiries SEED DESKS | lanes SEED RUNS | folders SEED CALLS | vectors";
 
 /// 0 when all is well, 1 when a check fails, 2 when the command can't be carried out.
 fn main() -> ExitCode {
@@ -73,6 +77,10 @@ fn run(words: &[&str]) -> io::Result<bool> {
         ["lanes", seed, runs] => {
             let (report, none_late) = fair::report(number(seed)?, number(runs)?);
             put(report, none_late)
+        }
+        ["folders", seed, calls] => {
+            let (report, none_shared) = accident::report(number(seed)?, number(calls)? as usize);
+            put(report, none_shared)
         }
         ["vectors"] => {
             let (report, all_hold) = vectors::report();

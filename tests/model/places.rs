@@ -2,8 +2,8 @@
 //! it, in each call that reads a frame and in the receiver's lines.
 
 use crate::calls::unhex;
+use crate::subject::{Subject, Times, Wanted};
 use crate::telegram::{CODES, END, LONGEST_TELEGRAM, START, SUBSTITUTION};
-use std::collections::BTreeMap;
 
 /// What must have been met in each call that reads a frame.
 const READING: [&str; 8] = [
@@ -41,34 +41,15 @@ pub struct Places {
     fed: Vec<u8>,
     /// How many of them came before each chunk.
     borders: Vec<usize>,
-    times: BTreeMap<(&'static str, &'static str), usize>,
+    times: Times,
 }
 
-impl Places {
-    /// The places of a whole script.
-    pub fn of(calls: &[&[u8]], answers: &[&[u8]]) -> Places {
-        let mut places = Places::default();
-        for (call, answer) in calls.iter().zip(answers) {
-            places.hear(&String::from_utf8_lossy(call), &String::from_utf8_lossy(answer));
-        }
-        places
-    }
+impl Subject for Places {
+    const NAME: &'static str = "3 in ";
+    const WANTED: Wanted = &WANTED;
 
-    /// One line for each call, with how often each thing was met.
-    pub fn lines(&self) -> String {
-        let times = |name, thing| self.times.get(&(name, thing)).copied().unwrap_or(0);
-        let line = |(name, things): &(&'static str, &[&'static str])| {
-            let each: String = things.iter().map(|thing| format!("  {thing}:{}", times(*name, *thing))).collect();
-            format!("3 in {name}{each}\n")
-        };
-        WANTED.iter().map(line).collect()
-    }
-
-    /// What should have been met and never was.
-    pub fn missing(&self) -> Vec<String> {
-        let all = WANTED.iter().flat_map(|(name, things)| things.iter().map(move |thing| (*name, *thing)));
-        let never = all.filter(|met| !self.times.contains_key(met));
-        never.map(|(name, thing)| format!("3 in {name}: {thing} never occurred")).collect()
+    fn fresh() -> Places {
+        Places::default()
     }
 
     /// Hears of a call and its answer; only calls that read a frame, and those on the receiver, have something to tell.
@@ -96,11 +77,12 @@ impl Places {
         }
     }
 
-    /// Counts a thing that was met.
-    fn count(&mut self, name: &'static str, thing: &'static str) {
-        *self.times.entry((name, thing)).or_default() += 1;
+    fn times(&mut self) -> &mut Times {
+        &mut self.times
     }
+}
 
+impl Places {
     /// A frame was refused 3 with its place, or 2 though it also has a fault of 3.
     fn answered(&mut self, name: &'static str, frame: &[u8], answer: &str) {
         if let Some(place) = answer.strip_prefix("no 3 place=").and_then(|rest| rest.split(' ').next()?.parse().ok()) {

@@ -1,4 +1,5 @@
-//! The lanes as calls and answers tell them, and by which grant each request that waits must have been opened.
+//! The lanes as calls and answers tell them, and by which grant each request that waits must have been opened or taken
+//! out.
 
 use crate::lanes::LANES;
 use std::str::FromStr;
@@ -11,18 +12,24 @@ const MOST_LATE: usize = 5;
 pub struct Waiting {
     pub job: u32,
     pub wait: u32,
-    /// The words of its joining but the folder, parted by colons, as `lane.dump` shows a request.
+    pub folder: u32,
+    /// The number of its joining, from 0.
+    pub serial: usize,
+    /// The words of its joining parted by colons, as `lane.dump` shows a request.
     pub shown: String,
-    /// The number of the grant that must open it at the latest.
+    /// The number of the grant that must open it or take it out at the latest.
     pub latest: usize,
 }
 
-/// What waits, how many grants have opened something, and the requests that were not among those in time.
+/// What waits, how many grants have opened something or taken something out, and the requests that were not among those
+/// in time.
 #[derive(Clone)]
 pub struct Queue {
     /// The lane last served, from 1.
     pub last: usize,
     pub lanes: Vec<Vec<Waiting>>,
+    /// How many requests have joined.
+    pub joined: usize,
     pub grants: usize,
     pub late: Vec<String>,
 }
@@ -37,7 +44,7 @@ impl Waiting {
 impl Queue {
     /// Fresh lanes.
     pub fn new() -> Queue {
-        Queue { last: LANES, lanes: vec![Vec::new(); LANES], grants: 0, late: Vec::new() }
+        Queue { last: LANES, lanes: vec![Vec::new(); LANES], joined: 0, grants: 0, late: Vec::new() }
     }
 
     /// How many lanes have something waiting.
@@ -60,7 +67,7 @@ impl Queue {
         self.lane_of(job).map_or(0, |lane| self.lanes[lane - 1].len())
     }
 
-    /// The request that a grant would open.
+    /// The request that a grant would open or take out.
     pub fn next(&self) -> Option<&Waiting> {
         let (up_to_last, after_last) = self.lanes.split_at(self.last);
         after_last.iter().chain(up_to_last).find_map(|lane| lane.first())
@@ -76,13 +83,13 @@ impl Queue {
         format!("ok last={} lanes={}", self.last, lanes.join("|"))
     }
 
-    /// Hears of a call by its words and of its answer, and hands over the request that it opened and its lane's number,
-    /// if it is a grant that did.
+    /// Hears of a call by its words and of its answer, and hands over the request that it opened or took out and its
+    /// lane's number, if it is a grant that did; only such a grant answers a job.
     pub fn hear(&mut self, words: &[&str], answer: &str) -> Option<(usize, Waiting)> {
         let mut granted = None;
         match (words, answer) {
             (["desk.new"], "ok") => *self = Queue { late: std::mem::take(&mut self.late), ..Queue::new() },
-            (["lane.join", shown @ .., _], answer) => self.join(shown, field(answer, "lane=")),
+            (["lane.join", shown @ ..], answer) => self.join(shown, field(answer, "lane=")),
             (["lane.withdraw", job, place], "ok") => self.withdraw(number(job), number(place)),
             (["lane.grant", ..], answer) => {
                 granted = field(answer, "job=").and_then(|job| self.lane_of(job)).map(|lane| self.grant(lane))
@@ -96,9 +103,10 @@ impl Queue {
     /// A request of these words has joined this lane, if any.
     fn join(&mut self, words: &[&str], lane: Option<usize>) {
         let lane = lane.and_then(|lane| self.lanes.get_mut(lane.wrapping_sub(1)));
-        if let ([job, .., wait], Some(lane)) = (words, lane) {
-            let (job, wait, shown) = (number(job), number(wait), words.join(":"));
-            lane.push(Waiting { job, wait, shown, latest: usize::MAX });
+        if let ([job, .., wait, folder], Some(lane)) = (words, lane) {
+            let (job, wait, folder, shown) = (number(job), number(wait), number(folder), words.join(":"));
+            lane.push(Waiting { job, wait, folder, serial: self.joined, shown, latest: usize::MAX });
+            self.joined += 1;
         }
     }
 
@@ -109,19 +117,19 @@ impl Queue {
         }
     }
 
-    /// A grant has opened the oldest request of this lane. What still waits must not be late then.
+    /// A grant has opened the oldest request of this lane or taken it out. What still waits must not be late then.
     fn grant(&mut self, lane: usize) -> (usize, Waiting) {
         self.grants += 1;
         self.last = lane;
-        let opened = self.lanes[lane - 1].remove(0);
+        let served = self.lanes[lane - 1].remove(0);
         let late = self.lanes.iter().flatten().filter(|waiting| waiting.latest == self.grants);
         let told = late.map(|waiting| format!("{} still waits after grant {}", waiting.shown, self.grants));
         self.late.extend(told.take(MOST_LATE.saturating_sub(self.late.len())).collect::<Vec<String>>());
-        (lane, opened)
+        (lane, served)
     }
 
-    /// A request that is p-th in its lane now must be opened within 16 times p grants from now on, or sooner where it
-    /// had to be sooner before.
+    /// A request that is p-th in its lane now must be opened or taken out within 16 times p grants from now on, or
+    /// sooner where it had to be sooner before.
     fn set_latest(&mut self) {
         for lane in &mut self.lanes {
             for (place, waiting) in lane.iter_mut().enumerate() {

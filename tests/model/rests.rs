@@ -3,6 +3,7 @@
 
 use crate::desk::{age, FIRST_HOST, LAST_HOST, REST};
 use crate::dues::expired;
+use crate::subject::{Subject, Times, Wanted};
 use std::collections::{BTreeMap, BTreeSet};
 
 /// What must have been met after a cancel, and likewise after an expiry, alone or with others by one call. "Kept" is
@@ -43,46 +44,23 @@ pub struct Rests {
     told: BTreeSet<u8>,
     /// The latest clock reading of any call, since a reply has none.
     clock: u32,
-    times: BTreeMap<(&'static str, &'static str), usize>,
+    times: Times,
 }
 
-impl Rests {
+impl Subject for Rests {
+    const NAME: &'static str = "";
+    const WANTED: Wanted = &WANTED;
+
     /// A fresh desk, nothing met.
-    fn new() -> Rests {
+    fn fresh() -> Rests {
         Rests {
             turn: FIRST_HOST,
             last: BTreeMap::new(),
             rested: BTreeSet::new(),
             told: BTreeSet::new(),
             clock: 0,
-            times: BTreeMap::new(),
+            times: Times::new(),
         }
-    }
-
-    /// The rests of a whole script.
-    pub fn of(calls: &[&[u8]], answers: &[&[u8]]) -> Rests {
-        let mut rests = Rests::new();
-        for (call, answer) in calls.iter().zip(answers) {
-            rests.hear(&String::from_utf8_lossy(call), &String::from_utf8_lossy(answer));
-        }
-        rests
-    }
-
-    /// One line for each head, with how often each thing was met.
-    pub fn lines(&self) -> String {
-        let times = |head, thing| self.times.get(&(head, thing)).copied().unwrap_or(0);
-        let line = |(head, things): &(&'static str, &[&'static str])| {
-            let each: String = things.iter().map(|thing| format!("  {thing}:{}", times(*head, *thing))).collect();
-            format!("{head}{each}\n")
-        };
-        WANTED.iter().map(line).collect()
-    }
-
-    /// What should have been met and never was.
-    pub fn missing(&self) -> Vec<String> {
-        let all = WANTED.iter().flat_map(|(head, things)| things.iter().map(move |thing| (*head, *thing)));
-        let never = all.filter(|met| !self.times.contains_key(met));
-        never.map(|(head, thing)| format!("{head}: {thing} never occurred")).collect()
     }
 
     /// Hears of a call and its answer; only calls on the desk, the box's and grants too, have something to tell.
@@ -115,15 +93,16 @@ impl Rests {
         }
     }
 
+    fn times(&mut self) -> &mut Times {
+        &mut self.times
+    }
+}
+
+impl Rests {
     /// A fresh desk: only the counts stay.
     fn forget(&mut self) {
         let times = std::mem::take(&mut self.times);
-        *self = Rests { times, ..Rests::new() };
-    }
-
-    /// Counts a thing that was met.
-    fn count(&mut self, head: &'static str, thing: &'static str) {
-        *self.times.entry((head, thing)).or_default() += 1;
+        *self = Rests { times, ..Rests::fresh() };
     }
 
     /// An address was given: those from the turn up to it were passed over.

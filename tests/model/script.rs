@@ -3,6 +3,7 @@
 mod bench_walk;
 mod desk_walk;
 mod expall_walk;
+mod folder_walk;
 mod lane_walk;
 mod look_walk;
 mod numbers;
@@ -128,6 +129,17 @@ const LANE_ROUND: [Section; 10] = [
     lane_walk::mixed,
 ];
 
+/// The sections on folders, after those on the lanes, with a generator of their own as well.
+const FOLDER_ROUND: [Section; 7] = [
+    rough::folder_lines,
+    folder_walk::accident,
+    folder_walk::alike,
+    folder_walk::taken_out,
+    folder_walk::full_desk,
+    folder_walk::mixed,
+    folder_walk::mixed,
+];
+
 /// A rehearsal with a desk of any sort, to try the call on that expires everything due.
 pub fn crowded(seed: u64) -> Rehearsal {
     let mut script = Script::new(seed);
@@ -160,6 +172,7 @@ pub fn write(seed: u64, calls: usize) -> Vec<u8> {
     let mut expall_random = Random::new(seed.rotate_left(48) ^ 0x4558_5041_4C4C);
     let mut look_random = Random::new(seed.rotate_left(8) ^ 0x4C4F_4F4B_0000);
     let mut lane_random = Random::new(seed.rotate_left(24) ^ 0x4C41_4E45_5300);
+    let mut folder_random = Random::new(seed.rotate_left(40) ^ 0x464F_4C44_4552);
     while script.lines.len() < calls {
         script.round(ROUND);
         script.round_with(&mut receiver_random, RECEIVER_ROUND);
@@ -169,6 +182,7 @@ pub fn write(seed: u64, calls: usize) -> Vec<u8> {
         script.round_with(&mut expall_random, EXPALL_ROUND);
         script.round_with(&mut look_random, LOOK_ROUND);
         script.round_with(&mut lane_random, LANE_ROUND);
+        script.round_with(&mut folder_random, FOLDER_ROUND);
     }
     script.lines.truncate(calls);
     script.lines.iter().flat_map(|line| [line.as_slice(), b"\n"].concat()).collect()

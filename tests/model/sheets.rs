@@ -3,8 +3,8 @@
 
 use crate::calls::{parse_settings, unhex};
 use crate::sheet::{header_faults, laid_out, number, records, Head, Record, Setting, HEADER, MOST_SETTINGS};
+use crate::subject::{Subject, Times, Wanted};
 use crate::telegram::No;
-use std::collections::BTreeMap;
 
 /// What must have been met of lists that were written, and of sheets that were right; the last four are values of 240
 /// bytes.
@@ -75,59 +75,15 @@ const WANTED: [(&str, &[&str]); 17] = [
 /// How often each thing was met.
 #[derive(Default)]
 pub struct Sheets {
-    times: BTreeMap<(&'static str, &'static str), usize>,
+    times: Times,
 }
 
-impl Sheets {
-    /// The sheets of a whole script.
-    pub fn of(calls: &[&[u8]], answers: &[&[u8]]) -> Sheets {
-        let mut sheets = Sheets::default();
-        for (call, answer) in calls.iter().zip(answers) {
-            sheets.hear(&String::from_utf8_lossy(call), &String::from_utf8_lossy(answer));
-        }
-        sheets
-    }
+impl Subject for Sheets {
+    const NAME: &'static str = "sheet, ";
+    const WANTED: Wanted = &WANTED;
 
-    /// One line for each head, with how often each thing was met.
-    pub fn lines(&self) -> String {
-        let times = |head, thing| self.times.get(&(head, thing)).copied().unwrap_or(0);
-        let line = |(head, things): &(&'static str, &[&'static str])| {
-            let each: String = things.iter().map(|thing| format!("  {thing}:{}", times(*head, *thing))).collect();
-            format!("sheet, {head}{each}\n")
-        };
-        WANTED.iter().map(line).collect()
-    }
-
-    /// What should have been met and never was.
-    pub fn missing(&self) -> Vec<String> {
-        let all = WANTED.iter().flat_map(|(head, things)| things.iter().map(move |thing| (*head, *thing)));
-        let never = all.filter(|met| !self.times.contains_key(met));
-        never.map(|(head, thing)| format!("sheet, {head}: {thing} never occurred")).collect()
-    }
-
-    /// Counts a thing that was met, under the head and by the name it is wanted by; what is not wanted goes uncounted.
-    fn count(&mut self, head: &str, thing: &str) {
-        let found = WANTED.iter().find(|(wanted, _)| *wanted == head).and_then(|(head, things)| {
-            let thing = things.iter().find(|wanted| **wanted == thing)?;
-            Some((*head, *thing))
-        });
-        if let Some(met) = found {
-            *self.times.entry(met).or_default() += 1;
-        }
-    }
-
-    /// Counts a thing where it was met.
-    fn count_if(&mut self, is_met: bool, head: &str, thing: &str) {
-        if is_met {
-            self.count(head, thing);
-        }
-    }
-
-    /// Counts which of two faults stands first, of all pairs of places where one and the other are.
-    fn count_order(&mut self, head: &str, one: (No, &[usize]), other: (No, &[usize])) {
-        let is_before = |these: &[usize], those: &[usize]| these.iter().min() < those.iter().max() && !these.is_empty();
-        self.count_if(is_before(one.1, other.1), head, &format!("{} before {}", one.0, other.0));
-        self.count_if(is_before(other.1, one.1), head, &format!("{} before {}", other.0, one.0));
+    fn fresh() -> Sheets {
+        Sheets::default()
     }
 
     /// Hears of a call and its answer; only those on sheets have something to tell.
@@ -150,6 +106,19 @@ impl Sheets {
             }
             _ => (),
         }
+    }
+
+    fn times(&mut self) -> &mut Times {
+        &mut self.times
+    }
+}
+
+impl Sheets {
+    /// Counts which of two faults stands first, of all pairs of places where one and the other are.
+    fn count_order(&mut self, head: &str, one: (No, &[usize]), other: (No, &[usize])) {
+        let is_before = |these: &[usize], those: &[usize]| these.iter().min() < those.iter().max() && !these.is_empty();
+        self.count_if(is_before(one.1, other.1), head, &format!("{} before {}", one.0, other.0));
+        self.count_if(is_before(other.1, one.1), head, &format!("{} before {}", other.0, one.0));
     }
 
     /// What was taken: how many settings, and limits among them.

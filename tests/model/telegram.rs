@@ -6,18 +6,20 @@ use crate::remainder::remainder;
 pub type No = u32;
 
 /// What a call is refused with: the number; with number 3 the place in the frame of the first faulty 94, the start
-/// byte's being 0; and with opening's numbers how many addresses were considered. No other number has either.
+/// byte's being 0; with opening's numbers how many addresses were considered; and with a grant's 75 the job whose
+/// request was taken out. No other number has any of these.
 #[derive(Clone, Copy)]
 pub struct Refusal {
     pub no: No,
     pub place: Option<usize>,
+    pub job: Option<u32>,
     pub count: Option<usize>,
 }
 
 impl From<No> for Refusal {
     /// A number alone.
     fn from(no: No) -> Refusal {
-        Refusal { no, place: None, count: None }
+        Refusal { no, place: None, job: None, count: None }
     }
 }
 

@@ -3,10 +3,11 @@
 
 use crate::calls::unhex;
 use crate::desk::{age, HOSTS};
-use crate::dues::expired;
+use crate::dues::closed;
 use crate::lanes::{LANES, MOST_WAITING};
 use crate::queue::{field, Queue};
 use crate::rests::{opens, parsed};
+use crate::subject::{Subject, Times, Wanted};
 use crate::telegram::CODES;
 use std::collections::{BTreeMap, BTreeSet};
 
@@ -29,7 +30,7 @@ const JOINED: [&str; 12] = [
 const DATA: [&str; 6] = ["no bytes", "1 byte", "2 to 238 bytes", "239 bytes", "240 bytes", "240 to be substituted"];
 /// What must have been met of each of 11 to 14 at a joining: with neither 71 nor 72 behind it, and with each of them.
 const REFUSED: [&str; 4] = ["alone", "lane full", "no lane free", "lane full and none free"];
-/// What must have been met of the lane that a grant served.
+/// What must have been met of the lane that a grant served, whether it opened the request or took it out.
 const SERVED: [&str; 8] = [
     "first of all",
     "the next lane",
@@ -76,7 +77,7 @@ const SHOWN: [&str; 6] = [
     "the last served is the 16th",
 ];
 /// What must have been met, under so many heads.
-const WANTED: [(&str, &[&str]); 20] = [
+const WANTED: [(&str, &[&str]); 21] = [
     ("join", &JOINED),
     ("join, data", &DATA),
     ("join 10", &["alone", "no lane free"]),
@@ -87,6 +88,7 @@ const WANTED: [(&str, &[&str]); 20] = [
     ("join 71", &["few waiting", "64 waiting", "a job that had one"]),
     ("join 72", &["lanes free", "no lane free"]),
     ("grant", &SERVED),
+    ("grant 75", &SERVED),
     ("grant, data", &DATA),
     ("grant, room", &ROOMS),
     ("grant 74", &["fresh", "all granted", "all withdrawn", "on a full desk"]),
@@ -113,12 +115,15 @@ pub struct Turns {
     /// The addresses with a ticket, and the clock and the waiting time of those that grants opened.
     open: BTreeSet<u8>,
     granted: BTreeMap<u8, (u32, u32)>,
-    times: BTreeMap<(&'static str, &'static str), usize>,
+    times: Times,
 }
 
-impl Turns {
+impl Subject for Turns {
+    const NAME: &'static str = "lanes, ";
+    const WANTED: Wanted = &WANTED;
+
     /// A fresh desk with fresh lanes, nothing met.
-    fn new() -> Turns {
+    fn fresh() -> Turns {
         Turns {
             queue: Queue::new(),
             lane_of: BTreeMap::new(),
@@ -128,46 +133,7 @@ impl Turns {
             is_15: false,
             open: BTreeSet::new(),
             granted: BTreeMap::new(),
-            times: BTreeMap::new(),
-        }
-    }
-
-    /// The lanes of a whole script.
-    pub fn of(calls: &[&[u8]], answers: &[&[u8]]) -> Turns {
-        let mut turns = Turns::new();
-        for (call, answer) in calls.iter().zip(answers) {
-            turns.hear(&String::from_utf8_lossy(call), &String::from_utf8_lossy(answer));
-        }
-        turns
-    }
-
-    /// One line for each head, with how often each thing was met.
-    pub fn lines(&self) -> String {
-        let times = |head, thing| self.times.get(&(head, thing)).copied().unwrap_or(0);
-        let line = |(head, things): &(&'static str, &[&'static str])| {
-            let each: String = things.iter().map(|thing| format!("  {thing}:{}", times(*head, *thing))).collect();
-            format!("lanes, {head}{each}\n")
-        };
-        WANTED.iter().map(line).collect()
-    }
-
-    /// What should have been met and never was, and what waited for too long.
-    pub fn missing(&self) -> Vec<String> {
-        let all = WANTED.iter().flat_map(|(head, things)| things.iter().map(move |thing| (*head, *thing)));
-        let never = all.filter(|met| !self.times.contains_key(met));
-        let never = never.map(|(head, thing)| format!("lanes, {head}: {thing} never occurred"));
-        never.chain(self.queue.late.iter().map(|late| format!("lanes: {late}, which must not occur"))).collect()
-    }
-
-    /// Counts a thing where it was met, under the head and by the name it is wanted by; what is not wanted goes
-    /// uncounted.
-    fn count_if(&mut self, is_met: bool, head: &str, thing: &str) {
-        let found = WANTED.iter().find(|(wanted, _)| *wanted == head).and_then(|(head, things)| {
-            let thing = things.iter().find(|wanted| **wanted == thing)?;
-            Some((*head, *thing))
-        });
-        if let Some(met) = found.filter(|_| is_met) {
-            *self.times.entry(met).or_default() += 1;
+            times: Times::new(),
         }
     }
 
@@ -190,12 +156,22 @@ impl Turns {
         self.queue.hear(&words, answer);
     }
 
+    fn times(&mut self) -> &mut Times {
+        &mut self.times
+    }
+
+    fn faults(&self) -> Vec<String> {
+        self.queue.late.iter().map(|late| format!("lanes: {late}, which must not occur")).collect()
+    }
+}
+
+impl Turns {
     /// A fresh desk: only the counts stay, and what waited for too long.
     fn anew(&mut self) {
         self.count_if(self.queue.held() > 0, "desk.new", "while some wait");
         self.count_if(self.queue.last != LANES, "desk.new", "another lane last");
         let (queue, times) = (self.queue.clone(), std::mem::take(&mut self.times));
-        *self = Turns { queue, times, ..Turns::new() };
+        *self = Turns { queue, times, ..Turns::fresh() };
     }
 
     /// Whether no lane is free.
@@ -295,29 +271,31 @@ impl Turns {
         }
     }
 
-    /// A grant has opened the oldest request of a lane.
+    /// A grant has opened the oldest request of a lane, or taken it out with 75.
     fn served(&mut self, clock: u32, words: &[&str], answer: &str) {
         let (before, last) = (self.queue.clone(), self.queue.last);
-        let (lane, opened) = match self.queue.hear(words, answer) {
+        let (lane, request) = match self.queue.hear(words, answer) {
             Some(served) => served,
             None => return,
         };
+        let address = field(answer, "address=");
+        let head = if address.is_some() { "grant" } else { "grant 75" };
         let waiting = before.lanes[lane - 1].len();
         let is_first = before.grants == 0;
-        self.count_if(is_first, "grant", "first of all");
-        self.count_if(lane == last + 1, "grant", "the next lane");
-        self.count_if(lane > last + 1, "grant", "over empty lanes");
-        self.count_if(lane < last && !is_first, "grant", "round past 16");
-        self.count_if(lane == last && !is_first, "grant", "the same lane again");
-        self.count_if(waiting == 1, "grant", "the last of its lane");
-        self.count_if(waiting == MOST_WAITING, "grant", "the first of four");
-        self.count_if(self.is_15, "grant", "after 15");
-        self.data("grant, data", opened.data());
-        if let Some(address) = field(answer, "address=") {
+        self.count_if(is_first, head, "first of all");
+        self.count_if(lane == last + 1, head, "the next lane");
+        self.count_if(lane > last + 1, head, "over empty lanes");
+        self.count_if(lane < last && !is_first, head, "round past 16");
+        self.count_if(lane == last && !is_first, head, "the same lane again");
+        self.count_if(waiting == 1, head, "the last of its lane");
+        self.count_if(waiting == MOST_WAITING, head, "the first of four");
+        self.count_if(self.is_15, head, "after 15");
+        if let Some(address) = address {
+            self.data("grant, data", request.data());
             self.open.insert(address);
-            self.granted.insert(address, (clock, opened.wait));
+            self.granted.insert(address, (clock, request.wait));
         }
-        self.served = opened.job;
+        self.served = request.job;
         (self.is_15, self.is_withdrawn) = (false, false);
     }
 
@@ -378,14 +356,8 @@ impl Turns {
     /// Tickets were closed, those that grants opened among them; or nothing was due.
     fn closed(&mut self, words: &[&str], answer: &str) {
         let clock = parsed(words.get(1).unwrap_or(&""));
-        let (way, closed) = match words[0] {
-            "desk.reply" => ("booked", field(answer, "address=").into_iter().collect()),
-            "desk.cancel" => ("cancelled", field(answer, "address=").into_iter().collect()),
-            "desk.expire" => ("expired", field(answer, "address=").into_iter().collect()),
-            "desk.expall" => ("expired by expall", expired(answer)),
-            _ => return,
-        };
-        for address in closed {
+        let (way, addresses) = closed(words[0], answer);
+        for address in addresses {
             self.open.remove(&address);
             if let Some((opened, wait)) = self.granted.remove(&address) {
                 self.count_if(true, "granted", way);

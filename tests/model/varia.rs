@@ -71,7 +71,7 @@ impl Varia {
         Varia { job, module, short: None, long: None, out: None }
     }
 
-    /// What the desk is asked to open for a wish: a write of the value, lowest byte first, or a read.
+    /// What the desk is asked to open for a wish: a write of the value, lowest byte first, or a read; on no folder.
     pub fn request(&self, wish: Wish, wait: u32, clock: u32) -> Request {
         let (register, value) = match wish {
             Wish::Set(Edge::Short, value) => (SHORT_PASS, Some(value)),
@@ -82,7 +82,7 @@ impl Varia {
         };
         let type_no = if value.is_some() { 5 } else { 4 };
         let data = value.map_or(Vec::new(), |value| vec![(value % 256) as u8, (value / 256) as u8]);
-        Request { job: self.job, module: self.module, type_no, register, data, wait, clock }
+        Request { job: self.job, module: self.module, type_no, register, data, wait, folder: 0, clock }
     }
 
     /// The box's own numbers, ahead of the desk's: 59 and 63 for an edge, 62 for the attenuation.

@@ -31,7 +31,7 @@ const EXAMPLE_ANSWERS: &str = "\
 ok rem=51126
 no 1 buf=ffff
 ok address=161 n=8 count=1 buf=0d0fa104669ee60a00000000
-ok turn=162 tickets=161:7:15:4:102:100:0 closed=-
+ok turn=162 tickets=161:7:15:4:102:100:0:0 closed=-
 ok
 ok
 ok
@@ -41,61 +41,37 @@ ok kind=3 write=1 lo=0 hi=65535
 no 34
 ";
 
-/// The part of the call scripts' later example that is about rests.
-const LATE_CALLS: &str = "\
+/// The part of the call scripts' later example that is about the desk: two jobs that want one folder, counts, number
+/// 3's place, a rest, a late answer, and the expiry of everything due.
+const DESK_CALLS: &str = "\
+desk.new
 desk.open 7 15 4 102 - 1000 3 0 000000000000000000000000
+desk.open 8 15 4 102 - 1000 3 0 000000000000000000000000
+desk.open 0 15 4 102 - 1000 3 0 -
+desk.open 8 15 4 102 - 1000 0 0 00
+desk.reply 0da10f08665e41965b0a 0000
 desk.cancel 7 161 40
 desk.reply 0da10f08663412965b0a 0000
 desk.dump
 desk.open 8 15 4 102 - 10 4 50 000000000000000000000000
-";
-
-const LATE_ANSWERS: &str = "\
-ok address=161 n=8 count=1 buf=0d0fa104669ee60a00000000
-ok job=7 address=161
-no 61 buf=0000
-ok turn=162 tickets=- closed=161:40
-ok address=162 n=8 count=1 buf=0d0fa20466c7b60a00000000
-";
-
-/// The part of the same example that is about how far an opening looked.
-const COUNT_CALLS: &str = "\
-desk.new
-desk.open 7 15 4 102 - 1000 3 0 000000000000000000000000
-desk.open 0 15 4 102 - 1000 3 0 -
-desk.open 8 15 4 102 - 1000 0 0 00
-";
-
-const COUNT_ANSWERS: &str = "\
-ok
-ok address=161 n=8 count=1 buf=0d0fa104669ee60a00000000
-no 10 count=0 buf=-
-no 16 count=1 buf=00
-";
-
-/// The part of the same example that is about number 3's place.
-const PLACE_CALLS: &str = "\
-desk.open 7 15 4 102 - 1000 3 0 000000000000000000000000
-desk.reply 0da10f08665e41965b0a 0000
-desk.cancel 7 161 40
-";
-
-const PLACE_ANSWERS: &str = "\
-ok address=161 n=8 count=1 buf=0d0fa104669ee60a00000000
-no 3 place=5 buf=0000
-ok job=7 address=161
-";
-
-/// The line of the same example that expires everything due, after those about rests; entries have no folder yet.
-const DUE_CALLS: &str = "\
 desk.expall 100 3
 ";
 
-const DUE_ANSWERS: &str = "\
-ok n=1 list=8:162,.,.
+const DESK_ANSWERS: &str = "\
+ok
+ok address=161 n=8 count=1 buf=0d0fa104669ee60a00000000
+no 75 count=0 buf=000000000000000000000000
+no 10 count=0 buf=-
+no 16 count=1 buf=00
+no 3 place=5 buf=0000
+ok job=7 address=161 folder=3
+no 61 buf=0000
+ok turn=162 tickets=- closed=161:40
+ok address=162 n=8 count=1 buf=0d0fa20466c7b60a00000000
+ok n=1 list=8:162:4,.,.
 ";
 
-/// The part of the same example that is about the filter box, after that about rests.
+/// The part of the same example that is about the filter box, after that about the desk.
 const BOX_CALLS: &str = "\
 varia.new 9 16
 varia.short 6000 500 200 00000000000000000000000000000000
@@ -120,7 +96,7 @@ ok moving=1
 ok short=? long=? out=163:short:6000
 ";
 
-/// The part of the same example that is about the lanes; requests have no folder yet.
+/// The part of the same example that is about the lanes.
 const LANE_CALLS: &str = "\
 lane.join 7 15 4 102 - 1000 3
 lane.join 8 15 5 48 3412 1000 3
@@ -132,7 +108,7 @@ lane.withdraw 8 2
 const LANE_ANSWERS: &str = "\
 ok lane=1 at=1
 ok lane=2 at=1
-ok last=16 lanes=7:15:4:102:-:1000|8:15:5:48:3412:1000|-|-|-|-|-|-|-|-|-|-|-|-|-|-
+ok last=16 lanes=7:15:4:102:-:1000:3|8:15:5:48:3412:1000:3|-|-|-|-|-|-|-|-|-|-|-|-|-|-
 no 73 buf=00
 no 55
 ";
@@ -185,9 +161,12 @@ pub fn report() -> (String, bool) {
         rests_of_dues(),
         looks(),
         looks_of_boxes(),
+        folders(),
+        closed_folders(),
         lanes(),
         grants(),
         granted_tickets(),
+        granted_folders(),
         withdrawals(),
         filter_boxes(),
         filter_edges(),
@@ -248,7 +227,7 @@ fn table_facts() -> Vec<Check> {
         calls(
             "T11 due over the clock's wrap",
             "desk.open 1 15 4 102 - 100 0 4294967290 a1a2a3a4a5a6a7a8\ndesk.expire 93\ndesk.expire 94",
-            "ok address=161 n=8 count=1 buf=0d0fa104669ee60a\nno 22\nok job=1 address=161",
+            "ok address=161 n=8 count=1 buf=0d0fa104669ee60a\nno 22\nok job=1 address=161 folder=0",
         ),
         Check { name: "T12 toggling 0401h with 0400h", got: toggled(), want: "0100".to_string() },
         remainder_is("the empty string has 0", "-", 0),
@@ -332,7 +311,6 @@ fn rests() -> Vec<Check> {
     let cancelled = "desk.cancel 1 200 5000";
     let at_the_wrap = "desk.cancel 1 200 4294967290";
     vec![
-        calls("the call scripts' example of a late answer", LATE_CALLS, LATE_ANSWERS),
         last("999 ms after a cancel", cancelled, 5999, "no 15 "),
         last("1000 ms after a cancel", cancelled, 6000, "ok address=200 "),
         last("one ms before a cancel", cancelled, 4999, "ok address=200 "),
@@ -343,12 +321,12 @@ fn rests() -> Vec<Check> {
     ]
 }
 
-/// Everything due at once: the call scripts' example, rooms around all 95, the rest at a second call, both sides of a
-/// waiting time, and what is not due.
+/// Everything due at once: rooms around all 95, the rest at a second call, both sides of a waiting time, and what is
+/// not due.
 fn dues() -> Vec<Check> {
     let open = |wait: u32, clock: u32| format!("desk.open 1 15 4 102 - {wait} 0 {clock} {}\n", "a1".repeat(20));
     let entries = |first: u8, last: u8, stayed: usize| {
-        let expired = (first..=last).map(|address| format!("1:{address}"));
+        let expired = (first..=last).map(|address| format!("1:{address}:0"));
         expired.chain(vec![".".to_string(); stayed]).collect::<Vec<String>>().join(",")
     };
     let last = |name, before: &str, call: &str, want: String| {
@@ -359,27 +337,22 @@ fn dues() -> Vec<Check> {
     let over_the_wrap = open(100, 4294967290);
     let three = [open(100, 0), open(101, 0), open(100, 0)].concat();
     vec![
-        calls(
-            "the call scripts' example of expiring everything",
-            &[LATE_CALLS, DUE_CALLS, BOX_CALLS].concat(),
-            &[LATE_ANSWERS, DUE_ANSWERS, BOX_ANSWERS].concat(),
-        ),
         calls("no entries", "desk.expall 0 0", "ok n=0 list=-"),
         calls("nothing due", "desk.expall 0 3", "ok n=0 list=.,.,."),
         last("200 entries", "", "desk.expall 0 200", format!("0 list={}.", ".,".repeat(199))),
         calls("201 entries are no call", "desk.expall 0 201", "bad line"),
         last("95 due, no room", &full, "desk.expall 100 0", "0 list=-".to_string()),
-        last("95 due, one entry", &full, "desk.expall 100 1", "1 list=1:161".to_string()),
+        last("95 due, one entry", &full, "desk.expall 100 1", "1 list=1:161:0".to_string()),
         last("95 due, 94 entries", &full, "desk.expall 100 94", format!("94 list={}", entries(161, 254, 0))),
         last("95 due, 95 entries", &full, "desk.expall 100 95", format!("95 list={}", entries(161, 255, 0))),
         last("95 due, 96 entries", &full, "desk.expall 100 96", format!("95 list={}", entries(161, 255, 1))),
         last("one ms before", &full, "desk.expall 99 2", "0 list=.,.".to_string()),
-        last("the rest", &full, "desk.expall 100 93\ndesk.expall 100 3", "2 list=1:254,1:255,.".to_string()),
+        last("the rest", &full, "desk.expall 100 93\ndesk.expall 100 3", "2 list=1:254:0,1:255:0,.".to_string()),
         last("nothing is left", &full, "desk.expall 100 95\ndesk.expall 100 1", "0 list=.".to_string()),
-        last("what is not due stays", &three, "desk.expall 100 3", "2 list=1:161,1:163,.".to_string()),
+        last("what is not due stays", &three, "desk.expall 100 3", "2 list=1:161:0,1:163:0,.".to_string()),
         last("T11 by one call, not due", &over_the_wrap, "desk.expall 93 1", "0 list=.".to_string()),
-        last("T11 by one call, due", &over_the_wrap, "desk.expall 94 1", "1 list=1:161".to_string()),
-        last("a clock set back by one", &open(60000, 1000), "desk.expall 999 1", "1 list=1:161".to_string()),
+        last("T11 by one call, due", &over_the_wrap, "desk.expall 94 1", "1 list=1:161:0".to_string()),
+        last("a clock set back by one", &open(60000, 1000), "desk.expall 999 1", "1 list=1:161:0".to_string()),
     ]
 }
 
@@ -398,13 +371,13 @@ fn rests_of_dues() -> Vec<Check> {
         last("one ms before it", 95, &open(99), "ok address=161 "),
         last("a late answer to it", 95, "desk.reply 0da10f08663412965b0a 0000", "no 61 buf=0000"),
         last("no expiry after 95", 95, "desk.expire 100", "no 22"),
-        last("an expiry after 94", 94, "desk.expire 100", "ok job=1 address=255"),
-        last("no turn is moved", 94, "desk.dump", "ok turn=161 tickets=255:1:15:4:102:100:0 closed=161:100,162:100,"),
+        last("an expiry after 94", 94, "desk.expire 100", "ok job=1 address=255 folder=0"),
+        last("no turn is moved", 94, "desk.dump", "ok turn=161 tickets=255:1:15:4:102:100:0:0 closed=161:100,162:100,"),
     ]
 }
 
-/// How many addresses an opening considered: the call scripts' example, 0 with 10 to 14 on a full desk too, 95 with 15,
-/// the farthest address, over the turn's end, and past addresses that rest; with 16 the same as where it is given.
+/// How many addresses an opening considered: 0 with 10 to 14 on a full desk too, 95 with 15, the farthest address, over
+/// the turn's end, and past addresses that rest; with 16 the same as where it is given.
 fn looks() -> Vec<Check> {
     let open = |clock: u32, room: usize| format!("desk.open 1 15 4 102 - 100 0 {clock} {}\n", "a1".repeat(room));
     let book = |address: u8| {
@@ -420,7 +393,6 @@ fn looks() -> Vec<Check> {
     let farther = [book(200), open(0, 20), book(161)].concat();
     let resting = ["desk.cancel 1 161 5000\n".to_string(), book(162)].concat();
     vec![
-        calls("the call scripts' example of a count", COUNT_CALLS, COUNT_ANSWERS),
         last("the turn's own address", "desk.new\n", &open(0, 20), "ok address=161 n=8 count=1 "),
         last("the 95th ticket", &("desk.new\n".to_string() + &full), "", "ok address=255 n=8 count=1 "),
         last("no address at all", "", &open(0, 20), "no 15 count=95 "),
@@ -470,9 +442,95 @@ fn looks_of_boxes() -> Vec<Check> {
     ]
 }
 
+/// A read of a job is opened on this folder, with room for so many bytes, at clock 0 and for 1000 ms.
+fn open_on(folder: u32, job: u32, room: usize) -> String {
+    format!("desk.open {job} 15 4 102 - 1000 {folder} 0 {}\n", "a1".repeat(room))
+}
+
+/// Whose folder an opening may have, and the order of its numbers; the call scripts' example first.
+fn folders() -> Vec<Check> {
+    let open = |job: u32, folder: u32| open_on(folder, job, 20);
+    let wrong = |words: &str| format!("desk.open {words} 3 0 a1\n");
+    let (held, full) = (open(7, 3), open(9, 0).repeat(94));
+    let largest = open(7, 4294967295);
+    vec![
+        calls(
+            "the call scripts' example of a desk, a filter box and lanes",
+            &[DESK_CALLS, BOX_CALLS, LANE_CALLS].concat(),
+            &[DESK_ANSWERS, BOX_ANSWERS, LANE_ANSWERS].concat(),
+        ),
+        last_of("another job's folder", &[&held, &open(8, 3)], &format!("no 75 count=0 buf={}", "a1".repeat(20))),
+        last_of("a job's own folder", &[&held, &open(7, 3)], "ok address=162 n=8 count=1 "),
+        last_of("another folder", &[&held, &open(8, 2)], "ok address=162 n=8 count=1 "),
+        last_of("no folder beside one", &[&held, &open(8, 0)], "ok address=162 n=8 count=1 "),
+        last_of("no folder for both", &[&open(7, 0), &open(8, 0)], "ok address=162 n=8 count=1 "),
+        last_of("the largest folder", &[&largest, &open(8, 4294967295)], "no 75 count=0 "),
+        last_of("no folder past it", &["desk.open 7 15 4 102 - 1000 4294967296 0 a1"], "bad line"),
+        last_of("a folder that is 3 in 16 bits", &[&held, &open(8, 65539)], "ok address=162 "),
+        last_of("a folder that is 0 in 16 bits", &[&open(7, 65536), &open(8, 65536)], "no 75 count=0 "),
+        last_of("a job that is 7 in 16 bits", &[&held, &open(65543, 3)], "no 75 count=0 "),
+        last_of("10 ahead of 75", &[&held, &wrong("0 161 8 102 00 0")], "no 10 count=0 buf=a1"),
+        last_of("11 ahead of 75", &[&held, &wrong("8 161 8 102 00 0")], "no 11 count=0 buf=a1"),
+        last_of("12 ahead of 75", &[&held, &wrong("8 160 8 102 00 0")], "no 12 count=0 buf=a1"),
+        last_of("13 ahead of 75", &[&held, &wrong("8 160 4 102 00 0")], "no 13 count=0 buf=a1"),
+        last_of("14 ahead of 75", &[&held, &wrong("8 160 4 102 - 0")], "no 14 count=0 buf=a1"),
+        last_of("75 ahead of 15", &[&held, &full, &open(8, 3)], "no 75 count=0 "),
+        last_of("15 on a job's own folder", &[&held, &full, &open(7, 3)], "no 15 count=95 "),
+        last_of("15 on another folder", &[&held, &full, &open(8, 2)], "no 15 count=95 "),
+        last_of("75 ahead of 16", &[&held, &open_on(3, 8, 7)], "no 75 count=0 buf=a1"),
+        last_of("16 on a job's own folder", &[&held, &open_on(3, 7, 7)], "no 16 count=1 buf=a1"),
+        last_of("a refused one holds nothing", &[&open_on(3, 7, 7), &open(8, 3)], "ok address=161 "),
+        last_of(
+            "75 changes no ticket and no turn",
+            &[&held, &open(8, 3), "desk.dump"],
+            "ok turn=162 tickets=161:7:15:4:102:1000:0:3 closed=-",
+        ),
+        last_of("a fresh desk's folders", &[&held, "desk.new\n", &open(8, 3)], "ok address=161 "),
+        last_of(
+            "the box is on no folder",
+            &["varia.new 9 16\nvaria.status 500 200 a1a1a1a1a1a1a1a1a1\ndesk.dump"],
+            "ok turn=162 tickets=161:9:16:4:102:500:200:0 closed=-",
+        ),
+    ]
+}
+
+/// The folder of a ticket in the answers of each way to close it, and who may have it then: a job's other ticket holds
+/// it on, an address that rests does not.
+fn closed_folders() -> Vec<Check> {
+    let open = |job: u32| open_on(3, job, 20);
+    let (held, twice) = (open(7), open(7).repeat(2));
+    let reply = "desk.reply 0da10f08663412965b0a 0000\n";
+    let misfit = Message { dest: 161, source: 16, type_no: 8, register: 102, data: Vec::new() }.telegram();
+    let misfit = format!("desk.reply {} -\n", hex(&misfit));
+    let (cancel, expire, expire_all) = ("desk.cancel 7 161 40\n", "desk.expire 1000\n", "desk.expall 1000 1\n");
+    vec![
+        last_of("a reply's folder", &[&held, reply], "ok job=7 address=161 type=8 n=2 folder=3 buf=3412"),
+        last_of("a cancel's folder", &[&held, cancel], "ok job=7 address=161 folder=3"),
+        last_of("an expiry's folder", &[&held, expire], "ok job=7 address=161 folder=3"),
+        last_of("the folders of all that expires", &[&twice, "desk.expall 1000 3"], "ok n=2 list=7:161:3,7:162:3,."),
+        last_of("free after a reply", &[&held, reply, &open(8)], "ok address=162 "),
+        last_of("free after a cancel", &[&held, cancel, &open(8)], "ok address=162 "),
+        last_of("free after an expiry", &[&held, expire, &open(8)], "ok address=162 "),
+        last_of("free after the expiry of all", &[&held, expire_all, &open(8)], "ok address=162 "),
+        last_of("another's then", &[&held, cancel, &open(8), &open(7)], "no 75 count=0 "),
+        last_of("held after a reply", &[&twice, reply, &open(8)], "no 75 count=0 "),
+        last_of("held after a cancel", &[&twice, cancel, &open(8)], "no 75 count=0 "),
+        last_of("held after an expiry", &[&twice, expire, &open(8)], "no 75 count=0 "),
+        last_of("held after the expiry of all", &[&twice, expire_all, &open(8)], "no 75 count=0 "),
+        last_of("held after a reply that misfits", &[&held, &misfit, &open(8)], "no 75 count=0 "),
+        last_of("held after another's cancel", &[&held, "desk.cancel 8 161 40\n", &open(8)], "no 75 count=0 "),
+        last_of("held while it is due", &[&held, "desk.expall 1000 0\n", &open(8)], "no 75 count=0 "),
+    ]
+}
+
+/// A read of a job joins the lanes on this folder.
+fn join_on(folder: u32, job: u32) -> String {
+    format!("lane.join {job} 15 4 102 - 1000 {folder}\n")
+}
+
 /// A read of a job joins the lanes.
 fn join(job: u32) -> String {
-    format!("lane.join {job} 15 4 102 - 1000 0\n")
+    join_on(0, job)
 }
 
 /// A grant at this clock with a room of so many bytes.
@@ -497,14 +555,13 @@ fn lanes_after(name: &'static str, calls: &[&str], last: usize, lanes: &[&str]) 
     Check { name, got: said.lines().last().unwrap_or("").to_string(), want }
 }
 
-/// The lanes' part of the call scripts' example, both sides of 16 jobs and of 4 requests, and the numbers of joining.
+/// Both sides of 16 jobs and of 4 requests, and the numbers of joining.
 fn lanes() -> Vec<Check> {
     let sixteen: String = (1..=16).map(join).collect();
     let four = join(1).repeat(4);
     let wrong = |job: u32| format!("lane.join {job} 15 4 102 - 60001 0\n");
-    let request = "1:15:4:102:-:1000";
+    let request = "1:15:4:102:-:1000:0";
     vec![
-        calls("the call scripts' example of lanes", LANE_CALLS, LANE_ANSWERS),
         lanes_after("fresh lanes", &[], 16, &[]),
         last_of("the 16th job", &[&sixteen], "ok lane=16 at=1"),
         last_of("the 17th job", &[&sixteen, &join(17)], "no 71"),
@@ -529,7 +586,7 @@ fn lanes() -> Vec<Check> {
 
 /// Which request a grant opens, what it answers, and its numbers.
 fn grants() -> Vec<Check> {
-    let (buf, one, two) = ("a1".repeat(486), "1:15:4:102:-:1000", "2:15:4:102:-:1000");
+    let (buf, one, two) = ("a1".repeat(486), "1:15:4:102:-:1000:0", "2:15:4:102:-:1000:0");
     let (enough, short) = (grant(300, 494), grant(300, 493));
     let jobs = |jobs: &[u32]| jobs.iter().map(|job| join(*job)).collect::<String>();
     let open = format!("desk.open 9 15 4 102 - 1000 0 300 {}\n", "a1".repeat(20));
@@ -563,20 +620,19 @@ fn grants() -> Vec<Check> {
     ]
 }
 
-/// Tickets that grants opened: their waiting time, past which addresses they were opened, folders, and long telegrams.
+/// Tickets that grants opened: their waiting time, past which addresses they were opened, and long telegrams.
 fn granted_tickets() -> Vec<Check> {
     let (enough, two) = (grant(5000, 494), [join(1), join(2)].concat());
     let open = |clock: u32| format!("desk.open 9 15 4 102 - 1 0 {clock} {}\n", "a1".repeat(20));
     let closed = [open(0).repeat(95), "desk.cancel 9 161 5000\ndesk.cancel 9 162 4000\n".to_string()].concat();
-    let same_folder = "lane.join 7 15 4 102 - 1000 3\nlane.join 8 15 5 48 3412 1000 3\n";
     let long = format!("lane.join 1 15 5 48 {} 1000 0\n", "5e".repeat(240));
     vec![
         last_of("not due before its time", &[&join(1), &enough, "desk.expire 5999"], "no 22"),
-        last_of("due from the grant on", &[&join(1), &enough, "desk.expire 6000"], "ok job=1 address=161"),
+        last_of("due from the grant on", &[&join(1), &enough, "desk.expire 6000"], "ok job=1 address=161 folder=0"),
         last_of(
             "its ticket",
             &[&join(1), &enough, "desk.dump"],
-            "ok turn=162 tickets=161:1:15:4:102:1000:5000 closed=-",
+            "ok turn=162 tickets=161:1:15:4:102:1000:5000:0 closed=-",
         ),
         last_of("a grant past one that rests", &[&closed, &two, &enough], "ok job=1 address=162 n=8 count=2 "),
         last_of("no more then", &[&closed, &two, &enough.repeat(2)], "no 15 count=95 "),
@@ -585,12 +641,49 @@ fn granted_tickets() -> Vec<Check> {
             &[&closed, &two, &enough, &grant(6000, 494)],
             "ok job=2 address=161 n=8 count=94 ",
         ),
-        last_of(
-            "folders are passed over",
-            &[same_folder, &enough.repeat(2)],
-            "ok job=8 address=162 n=10 count=1 buf=0d0fa205303412",
-        ),
         last_of("240 bytes granted", &[&long, &enough], "ok job=1 address=161 n=488 count=1 buf=0d0fa105305e9e5e9e"),
+    ]
+}
+
+/// Requests on folders: which of them wait, are opened and are taken out, what is left then, and the numbers' order.
+fn granted_folders() -> Vec<Check> {
+    let (open, join) = (|job: u32| open_on(3, job, 20), |job: u32| join_on(3, job));
+    let (held, full, enough, buf) = (open(7), open_on(0, 9, 20).repeat(94), grant(300, 494), "a1".repeat(494));
+    let waits = [join(8), join_on(4, 8)].concat();
+    let cancel = "desk.cancel 7 161 40\n";
+    vec![
+        last_of("a held folder joins", &[&held, &join(8)], "ok lane=1 at=1"),
+        last_of("and is taken out", &[&held, &join(8), &enough], &format!("no 75 job=8 count=0 buf={buf}")),
+        lanes_after("the lane is served then", &[&held, &join(8), &enough], 1, &[]),
+        lanes_after("later ones move up", &[&held, &waits, &enough], 1, &["8:15:4:102:-:1000:4"]),
+        last_of("and are granted", &[&held, &waits, &enough.repeat(2)], "ok job=8 address=162 n=8 count=1 "),
+        last_of("the next lane's turn", &[&held, &waits, &join(7), &enough.repeat(2)], "ok job=7 address=162 "),
+        last_of("nothing waits then", &[&held, &join(8), &enough.repeat(2)], "no 74 buf=a1"),
+        last_of("nor can be withdrawn", &[&held, &join(8), &enough, "lane.withdraw 8 1"], "no 55"),
+        last_of(
+            "no ticket of it",
+            &[&held, &join(8), &enough, "desk.dump"],
+            "ok turn=162 tickets=161:7:15:4:102:1000:0:3 closed=-",
+        ),
+        last_of("taken out of a full desk", &[&held, &full, &join(8), &enough], "no 75 job=8 count=0 buf=a1"),
+        lanes_after("and of its lane", &[&held, &full, &join(8), &enough], 1, &[]),
+        last_of("its own folder on a full desk", &[&held, &full, &join(7), &enough], "no 15 count=95 buf=a1"),
+        lanes_after("still waits", &[&held, &full, &join(7), &enough], 16, &["7:15:4:102:-:1000:3"]),
+        last_of("73 ahead of 75", &[&held, &join(8), &grant(300, 493)], "no 73 buf=a1"),
+        lanes_after("73 takes nothing out", &[&held, &join(8), &grant(300, 493)], 16, &["8:15:4:102:-:1000:3"]),
+        last_of("what waits holds no folder", &[&join(7), &open(8)], "ok address=161 "),
+        last_of("and loses it", &[&join(7), &open(8), &enough], "no 75 job=7 count=0 "),
+        last_of("the first of two that wait", &[&join(7), &join(8), &enough], "ok job=7 address=161 "),
+        last_of("the second", &[&join(7), &join(8), &enough.repeat(2)], "no 75 job=8 count=0 "),
+        last_of("held when it joined only", &[&held, &join(8), cancel, &enough], "ok job=8 address=162 "),
+        last_of("its own job's folder", &[&held, &join(7), &enough], "ok job=7 address=162 "),
+        last_of(
+            "a granted ticket's folder",
+            &[&join(7), &enough, "desk.dump"],
+            "ok turn=162 tickets=161:7:15:4:102:1000:300:3 closed=-",
+        ),
+        last_of("is held", &[&join(7), &enough, &open(8)], "no 75 count=0 "),
+        last_of("until it is closed", &[&join(7), &enough, cancel, &open(8)], "ok address=162 "),
     ]
 }
 
@@ -598,7 +691,7 @@ fn granted_tickets() -> Vec<Check> {
 fn withdrawals() -> Vec<Check> {
     let register = |register: u8| format!("lane.join 1 15 4 {register} - 1000 0\n");
     let three: String = [10, 20, 30].into_iter().map(register).collect();
-    let (first, second, third) = ("1:15:4:10:-:1000", "1:15:4:20:-:1000", "1:15:4:30:-:1000");
+    let (first, second, third) = ("1:15:4:10:-:1000:0", "1:15:4:20:-:1000:0", "1:15:4:30:-:1000:0");
     let withdraw = |place: &str| format!("lane.withdraw 1 {place}\n");
     let left =
         |name, place: &str, left: [&str; 2]| lanes_after(name, &[&three, &withdraw(place)], 16, &[&left.join(",")]);
@@ -616,24 +709,19 @@ fn withdrawals() -> Vec<Check> {
         none("another job's", &[&three, "lane.withdraw 2 1"]),
         none("job 0's", &["lane.withdraw 0 1"]),
         none("a granted one", &[&join(1), &grant(0, 494), &withdraw("1")]),
-        lanes_after("the only one", &[&join(1), &join(2), &withdraw("1")], 16, &["-", "2:15:4:102:-:1000"]),
+        lanes_after("the only one", &[&join(1), &join(2), &withdraw("1")], 16, &["-", "2:15:4:102:-:1000:0"]),
         last_of("its lane is another's", &[&join(1), &join(2), &withdraw("1"), &join(3)], "ok lane=1 at=1"),
         lanes_after("no turn is moved by it", &[&join(1), &join(1), &grant(0, 494), &withdraw("1")], 1, &[]),
     ]
 }
 
-/// The box's part of the call scripts' example, its limits on both sides, and what needs a box.
+/// The box's limits on both sides, and what needs a box.
 fn filter_boxes() -> Vec<Check> {
     let on_a_box =
         |name, call: &str, want: &str| calls(name, &format!("varia.new 9 16\n{call}"), &format!("ok\n{want}"));
     let moving =
         |name, status: u16, want: u8| on_a_box(name, &format!("varia.moving {status}"), &format!("ok moving={want}"));
     vec![
-        calls(
-            "the call scripts' example of a filter box",
-            &[LATE_CALLS, BOX_CALLS].concat(),
-            &[LATE_ANSWERS, BOX_ANSWERS].concat(),
-        ),
         on_a_box("attenuation 1000", "varia.att 1000 1 0 a1", "no 16 count=1 buf=a1"),
         on_a_box("attenuation 1001, ahead of the desk's", "varia.att 1001 0 0 a1", "no 62 buf=a1"),
         on_a_box("no display of three bytes", "varia.display 010203 010203", "no 64"),
@@ -724,7 +812,6 @@ fn long_frames() -> Vec<Check> {
 fn places() -> Vec<Check> {
     let read = |name, frame: &str, want: &str| calls(name, &format!("read {frame} a1"), &format!("{want} buf=a1"));
     vec![
-        calls("the call scripts' example of a place", PLACE_CALLS, PLACE_ANSWERS),
         read("94 right after the start", "0d5e000f0330482f0a", "no 3 place=1"),
         read("94 just before the end", "0da20f0330482f5e0a", "no 3 place=7"),
         read("94 alone", "0d5e0a", "no 3 place=1"),
@@ -766,7 +853,7 @@ fn placed_calls() -> Vec<Check> {
             "the ticket stays open",
             "desk.open 7 15 4 102 - 1000 3 0 a1a2a3a4a5a6a7a8\ndesk.reply 0da10f08665e41965b0a a1\ndesk.dump",
             "ok address=161 n=8 count=1 buf=0d0fa104669ee60a\nno 3 place=5 buf=a1\n\
-             ok turn=162 tickets=161:7:15:4:102:1000:0 closed=-",
+             ok turn=162 tickets=161:7:15:4:102:1000:0:3 closed=-",
         ),
     ]
 }

@@ -3,7 +3,7 @@ an opening considers stands here beside the address that it is given, both worke
 follows a desk or a box. Where the count is not what the turn, behind the address given last, makes it, the script ends."""
 import re
 
-from wire import ACK, ATT, DATAGRAM, HOSTS, JOB, LONG, MODULE, MONITOR, NACK, READ, SHORT, STATUS, WRAP, WRITE
+from wire import ACK, ATT, DATAGRAM, FAULTS, HOSTS, JOB, LONG, MODULE, MONITOR, NACK, READ, SHORT, STATUS, WRAP, WRITE
 from wire import asked, box, booked, cancelled, desk, every, expired, fill, given, making, new, no_cancel, no_expiry
 from wire import not_booked, not_given, printed, refused, say, script, shown, telegram, way
 
@@ -45,11 +45,12 @@ for _ in range(2):
 
 ZEROS = "000000000000000000000000"
 say(f"desk.open 7 15 4 102 - 1000 3 0 {ZEROS}", "ok address=161 n=8 count=1 buf=0d0fa104669ee60a00000000")
+say(f"desk.open 8 15 4 102 - 1000 3 0 {ZEROS}", f"no 75 count=0 buf={ZEROS}")
 say("desk.open 0 15 4 102 - 1000 3 0 -", "no 10 count=0 buf=-")
 say("desk.open 8 15 4 102 - 1000 0 0 00", "no 16 count=1 buf=00")
-say("desk.cancel 7 161 40", "ok job=7 address=161")
+say("desk.cancel 7 161 40", "ok job=7 address=161 folder=3")
 say(f"desk.open 8 15 4 102 - 10 4 50 {ZEROS}", "ok address=162 n=8 count=1 buf=0d0fa20466c7b60a00000000")
-say("desk.expall 100 3", "ok n=1 list=8:162,.,.")
+say("desk.expall 100 3", "ok n=1 list=8:162:4,.,.")
 say("varia.new 9 16", "ok")
 say(f"varia.short 6000 500 200 {'00' * 16}", "ok address=163 n=11 count=1 buf=0d10a305337017945e4d0a0000000000")
 say(f"varia.long 7000 500 200 {'00' * 16}", f"no 59 buf={'00' * 16}")
@@ -256,7 +257,7 @@ for room in range(8):
     short(1, 161, room=room)
 looks(1, 161, room=8)
 short(1, 162)
-desk(162, "161:161:15:4:102:60000:0")
+desk(162, "161:161:15:4:102:60000:0:0")
 register = next(r for r in range(256) if [len(telegram(15, a, READ, r)) for a in (161, 162)] == [8, 9])
 fill(0)
 cancelled(162, 0)
@@ -279,16 +280,6 @@ looks(48, 209, 2000, room=length, sort=WRITE, register=48, data=DATA)
 not_given(15, 2000, room=length - 1, sort=WRITE, register=48, data=DATA)
 
 # ---- 10 to 14: none is considered, on whatever desk and with whatever else is wrong; the lowest number is told
-
-FAULTS = (
-    (10, dict(job=0)), (11, dict(module=0)), (11, dict(module=161)), (11, dict(module=255)), (12, dict(sort=3)),
-    (12, dict(sort=8)), (12, dict(sort=10)), (12, dict(sort=255)), (13, dict(data=b"\x03")),
-    (13, dict(sort=WRITE, data=bytes(241))), (14, dict(wait=0)), (14, dict(wait=60001)), (14, dict(wait=WRAP - 1)),
-    # and with all that come behind it
-    (13, dict(data=b"\x03", wait=0)), (12, dict(sort=3, data=bytes(241), wait=60001)),
-    (11, dict(module=161, sort=3, data=bytes(241), wait=0)),
-    (10, dict(job=0, module=0, sort=255, data=bytes(241), wait=0)),
-)
 
 
 def none_considered():
@@ -404,7 +395,7 @@ for filled in (False, True):
         refused_each(number, wait=wait)
         refused_each(number, wait=wait, room=0)
         refused(62, ATT, 1001, wait=wait, room=0)
-    desk(161, ",".join(f"{a}:{a}:15:4:102:60000:0" for a in HOSTS) if filled else "-")
+    desk(161, ",".join(f"{a}:{a}:15:4:102:60000:0:0" for a in HOSTS) if filled else "-")
 # on the full one
 making()
 refused_each(15)

@@ -29,12 +29,12 @@ for _ in range(2):
 
 # ---- the call scripts' example, as far as it goes by now
 
-given(161, 0, job=7, wait=1000)
-cancelled(161, 40, job=7)
+given(161, 0, job=7, wait=1000, folder=3)
+cancelled(161, 40, job=7, folder=3)
 shown(162, [], [(161, 40)])
-given(162, 50, job=8, wait=10)
-every(100, 3, [(8, 162)])
-assert script[-1] == ("desk.expall 100 3", "ok n=1 list=8:162,.,.")  # from #110 on 8:162:4
+given(162, 50, job=8, wait=10, folder=4)
+every(100, 3, [(8, 162, 4)])
+assert script[-1] == ("desk.expall 100 3", "ok n=1 list=8:162:4,.,.")
 shown(163, [], [(161, 40), (162, 100)])
 
 # ---- the power dip: 95 tickets, none of them due, then all; a list of none
@@ -427,7 +427,7 @@ asked(162, LONG, 4000)
 given(163, 0, job=7, wait=100)
 every(100, 3, [(7, 161), (7, 163)])
 box(out="162:long:4000")
-shown(164, ["162:9:16:5:52:60000:0"], [(161, 100), (163, 100)])
+shown(164, ["162:9:16:5:52:60000:0:0"], [(161, 100), (163, 100)])
 acked(162, LONG)
 box(long=4000)
 # the box's other requests tell it nothing, nor do those of others for its job, module and register

@@ -3,59 +3,12 @@ place a request takes, which one a grant opens and on which address, which numbe
 stands here line by line, worked out by hand from the papers; nothing here follows a desk, a box or lanes. Only the bytes of
 telegrams are worked out, by long division, and how far it was from the turn to an address. A request is known by its
 register, mostly ten times its job and a number."""
-from wire import ACK, CLEAR, HOSTS, READ, SET, SHORT, TOGGLE, WRAP, WRITE
-from wire import asked, bad, booked, box, cancelled, desk, every, expired, fill, framed, given, lent, longest, making, new
-from wire import no_cancel, no_expiry, not_booked, not_given, printed, refusal, say, shown, taken, telegram
+from wire import ACK, CLEAR, HOSTS, SET, SHORT, TOGGLE, WRAP, WRITE
+from wire import asked, bad, booked, box, cancelled, desk, every, expired, fill, framed, given, granted, joined, lanes, lent
+from wire import longest, making, new, no_cancel, no_expiry, not_booked, not_given, not_granted, not_joined, not_withdrawn
+from wire import printed, request, say, shown, withdrawn
 
-ENOUGH = 494  # bytes, which a grant wants
 LARGEST = 2**64 - 1
-
-
-def wish(job, register, module=15, sort=READ, data=b"", wait=60000):
-    """A request as lane.dump shows it."""
-    return f"{job}:{module}:{sort}:{register}:{data.hex() or '-'}:{wait}"
-
-
-def joining(job, register, module=15, sort=READ, data=b"", wait=60000, folder=0):
-    return "lane.join " + wish(job, register, module, sort, data, wait).replace(":", " ") + f" {folder}"
-
-
-def joined(lane, at, job, register, **how):
-    """The request takes this place in this lane."""
-    say(joining(job, register, **how), f"ok lane={lane} at={at}")
-
-
-def not_joined(number, job, register=102, **how):
-    say(joining(job, register, **how), f"no {number}")
-
-
-def granted(job, address, clock, register, module=15, sort=READ, data=b"", room=ENOUGH):
-    """A grant opens this job's request, and this address is given."""
-    frame = telegram(module, address, sort, register, data)
-    said = f"ok job={job} address={address} n={len(frame)} count={taken(address)} buf={lent(room, frame)}"
-    say(f"lane.grant {clock} {lent(room)}", said)
-
-
-def not_granted(number, clock=0, room=ENOUGH):
-    """73 and 74 are the lanes' own and have no count."""
-    said = f"no {number}" if number in (73, 74) else refusal(number)
-    say(f"lane.grant {clock} {lent(room)}", f"{said} buf={lent(room)}")
-
-
-def withdrawn(job, place):
-    say(f"lane.withdraw {job} {place}", "ok")
-
-
-def not_withdrawn(job, *places):
-    for place in places:
-        say(f"lane.withdraw {job} {place}", "no 55")
-
-
-def lanes(last, held={}):
-    """The lane last served, and those that hold something: requests as they are shown, or job and register."""
-    each = {lane: ",".join(one if isinstance(one, str) else wish(*one) for one in held[lane]) for lane in held}
-    say("lane.dump", f"ok last={last} lanes=" + "|".join(each.get(lane, "-") for lane in range(1, 17)))
-
 
 # ---- before the first desk.new, and on fresh lanes: nothing waits, and nothing can be withdrawn
 
@@ -77,8 +30,7 @@ for _ in range(2):
 
 say("lane.join 7 15 4 102 - 1000 3", "ok lane=1 at=1")
 say("lane.join 8 15 5 48 3412 1000 3", "ok lane=2 at=1")
-# from #110 on each with :3
-say("lane.dump", "ok last=16 lanes=7:15:4:102:-:1000|8:15:5:48:3412:1000|-|-|-|-|-|-|-|-|-|-|-|-|-|-")
+say("lane.dump", "ok last=16 lanes=7:15:4:102:-:1000:3|8:15:5:48:3412:1000:3|-|-|-|-|-|-|-|-|-|-|-|-|-|-")
 say("lane.grant 300 00", "no 73 buf=00")
 say("lane.withdraw 8 2", "no 55")
 
@@ -103,8 +55,8 @@ granted(7, 165, 140, 73)
 lanes(1)
 not_granted(74, 150)
 lanes(1)
-TICKETS = "161:7:15:4:71:60000:100,162:8:15:4:81:60000:110,163:7:15:4:72:60000:120,164:8:15:4:82:60000:130"
-desk(166, TICKETS + ",165:7:15:4:73:60000:140")
+TICKETS = "161:7:15:4:71:60000:100:0,162:8:15:4:81:60000:110:0,163:7:15:4:72:60000:120:0,164:8:15:4:82:60000:130:0"
+desk(166, TICKETS + ",165:7:15:4:73:60000:140:0")
 # a lane that is alone is served again and again
 for at in (1, 2, 3, 4):
     joined(1, at, 9, 90 + at)
@@ -192,12 +144,12 @@ LIMITS = (
 )
 for lane, (job, register, how) in enumerate(LIMITS, 1):
     joined(lane, 1, job, register, **how)
-lanes(16, {lane: [wish(job, register, **how)] for lane, (job, register, how) in enumerate(LIMITS, 1)})
+lanes(16, {lane: [request(job, register, **how)] for lane, (job, register, how) in enumerate(LIMITS, 1)})
 for lane, (job, register, how) in enumerate(LIMITS, 1):
     granted(job, 160 + lane, lane, register, **{name: how[name] for name in how if name != "wait"})
 lanes(16)
 desk(177, ",".join(
-    f"{160 + lane}:{job}:{how.get('module', 15)}:{how.get('sort', 4)}:{register}:{how.get('wait', 60000)}:{lane}"
+    f"{160 + lane}:{job}:{how.get('module', 15)}:{how.get('sort', 4)}:{register}:{how.get('wait', 60000)}:{lane}:0"
     for lane, (job, register, how) in enumerate(LIMITS, 1)
 ))
 
@@ -281,7 +233,7 @@ granted(6, 162, 0, 62)
 granted(5, 163, 0, 59)
 granted(8, 164, 0, 81)
 lanes(1)
-desk(165, "161:5:15:4:53:60000:0,162:6:15:4:62:60000:0,163:5:15:4:59:60000:0,164:8:15:4:81:60000:0")
+desk(165, "161:5:15:4:53:60000:0:0,162:6:15:4:62:60000:0:0,163:5:15:4:59:60000:0:0,164:8:15:4:81:60000:0:0")
 # what has been opened is no longer withdrawn, and what waits is not cancelled
 not_withdrawn(6, 1)
 joined(1, 1, 6, 63)
@@ -536,8 +488,8 @@ joined(2, 1, 8, 94, module=10, sort=TOGGLE, data=SECOND)
 for lane, data in enumerate(OTHERS, 3):
     joined(lane, 1, lane + 6, 10, module=13, sort=SET, data=data)
 lanes(16, {
-    1: [wish(7, 13, 94, WRITE, FIRST)], 2: [wish(8, 94, 10, TOGGLE, SECOND)],
-    **{lane: [wish(lane + 6, 10, 13, SET, data)] for lane, data in enumerate(OTHERS, 3)},
+    1: [request(7, 13, 94, WRITE, FIRST)], 2: [request(8, 94, 10, TOGGLE, SECOND)],
+    **{lane: [request(lane + 6, 10, 13, SET, data)] for lane, data in enumerate(OTHERS, 3)},
 })
 not_granted(73, room=493)  # although 492 would do
 granted(7, 161, 0, 13, 94, WRITE, FIRST)
@@ -558,7 +510,7 @@ no_expiry(1000)  # nothing is open yet, however long it waits
 every(WRAP - 1, 3)
 granted(7, 161, 5000, 48, sort=WRITE, data=b"\x34\x12")
 no_expiry(5099)
-desk(162, "161:7:15:5:48:100:5000")
+desk(162, "161:7:15:5:48:100:5000:0")
 expired(161, 5100, job=7)
 granted(8, 162, 5100, 48, 16, CLEAR, b"\x5e\x0a\x0d\x00")
 no_expiry(5100)
@@ -566,7 +518,7 @@ expired(162, 5101, job=8)
 granted(9, 163, WRAP - 10, 51, 17, TOGGLE, b"\xff" * 9)
 no_expiry(59989)
 granted(7, 164, 59989, 50, sort=SET, data=b"\x01")
-desk(165, "163:9:17:9:51:60000:4294967286,164:7:15:6:50:200:59989", "161:5100,162:5101")
+desk(165, "163:9:17:9:51:60000:4294967286:0,164:7:15:6:50:200:59989:0", "161:5100,162:5101")
 expired(163, 59990, job=9)
 booked(164, 7, 15, ACK, 50, b"")
 no_expiry(WRAP - 1)
@@ -633,20 +585,21 @@ booked(161, 9, 16, ACK, SHORT, b"")
 box(short=6000)
 joined(1, 1, 9, SHORT, module=16, sort=WRITE, data=b"\x58\x1b")
 making()  # a box made anew leaves the lanes
-lanes(1, {1: [wish(9, SHORT, 16, WRITE, b"\x58\x1b")]})
+lanes(1, {1: [request(9, SHORT, 16, WRITE, b"\x58\x1b")]})
 
-# ---- FOLDER is passed over until #110 lands
+# ---- a folder waits with its request, two jobs' the same one too
 
 for lane, folder in enumerate((3, 3, WRAP - 1), 2):
     joined(lane, 1, lane, 10 * lane, folder=folder)
-lanes(1, {1: [wish(9, SHORT, 16, WRITE, b"\x58\x1b")], 2: [(2, 20)], 3: [(3, 30)], 4: [(4, 40)]})
+WAITING = {1: [request(9, SHORT, 16, WRITE, b"\x58\x1b")], 3: [(3, 30, 3)], 4: [(4, 40, WRAP - 1)]}
+lanes(1, {**WAITING, 2: [(2, 20, 3)]})
 
 # ---- desk.new makes the lanes anew; a bench or a receiver is nothing to them
 
 granted(2, 163, 0, 20)
 say("bench.new 15", "ok")
 say("rx.new 0", "ok")
-lanes(2, {1: [wish(9, SHORT, 16, WRITE, b"\x58\x1b")], 3: [(3, 30)], 4: [(4, 40)]})
+lanes(2, WAITING)
 new()
 lanes(16)
 not_withdrawn(3, 1)

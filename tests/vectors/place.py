@@ -97,7 +97,7 @@ def each(frame, told, room=4):
         say(f"{call} {frame} {lent(room)}", f"{told} buf={lent(room)}")
 
 
-def desk(tickets="161:7:15:4:102:60000:0", turn=162, closed="-"):
+def desk(tickets="161:7:15:4:102:60000:0:0", turn=162, closed="-"):
     say("desk.dump", f"ok turn={turn} tickets={tickets} closed={closed}")
 
 
@@ -122,7 +122,7 @@ def totals(ok, refused, dropped, open=None):
 say("desk.new", "ok")
 say("desk.open 7 15 4 102 - 1000 3 0 000000000000000000000000", "ok address=161 n=8 count=1 buf=0d0fa104669ee60a00000000")
 say("desk.reply 0da10f08665e41965b0a 0000", "no 3 place=5 buf=0000")
-say("desk.cancel 7 161 40", "ok job=7 address=161")
+say("desk.cancel 7 161 40", "ok job=7 address=161 folder=3")
 
 # ---- without a bench, and before a ticket is open: ahead of 17, and of 61 where the last one was cancelled
 

@@ -2,8 +2,8 @@
 given, which number is told and what the desk shows stands here line by line, worked out by hand from the papers; nothing
 here follows a desk. Only the bytes of telegrams are worked out, by long division, and how far it was from the turn to an
 address."""
-from wire import HOSTS, WRAP, booked, cancelled, expired, fill, given, new, no_cancel, no_expiry, not_booked, not_given
-from wire import printed, say, shown, telegram
+from wire import HOSTS, WRAP, booked, cancelled, expired, fill, given, misread, new, no_cancel, no_expiry, not_booked
+from wire import not_given, printed, say, shown, telegram
 
 # ---- before the first desk.new nothing has been closed
 
@@ -206,16 +206,7 @@ for way in ("cancel", "expire"):
     not_booked(61, 161, register=103)  # another register: not 20
     not_booked(61, 161, source=161, sort=4, register=0, data=b"")  # all of them
     not_booked(61, 161, sort=3, register=0, data=b"", room=0)
-    RIGHT = telegram(161, 15, 8, 102, b"\x34\x12")
-    not_booked(1, 161, frame=RIGHT[:-1])
-    not_booked(2, 161, frame=RIGHT[:-1] + b"\r\n")
-    not_booked("3 place=9", 161, frame=RIGHT[:-1] + b"\x5e\n")
-    not_booked(4, 161, frame=RIGHT[:5] + b"\n")
-    not_booked(5, 161, frame=telegram(161, 15, 8, 102, bytes(241)))
-    not_booked(6, 161, room=1)  # the reader's numbers go first
-    not_booked(7, 161, frame=RIGHT[:-2] + bytes([RIGHT[-2] ^ 1]) + b"\n")
-    not_booked(8, 161, source=0)
-    not_booked(9, 161, sort=11)
+    misread(161)  # the reader's numbers go first
     not_booked(17, 162)  # never given
     not_booked(17, 160)  # no host's
     not_booked(17, 15, source=161)

@@ -136,7 +136,7 @@ frame = given(161, SHORT, 7000, clock=1000)
 box(out="161:short:7000")
 answers(frame, 161, ACK, SHORT)
 box(out="161:short:7000")  # the desk hasn't heard of it yet
-desk(162, "161:9:16:5:51:60000:1000")
+desk(162, "161:9:16:5:51:60000:1000:0")
 booked(161, ACK, SHORT)
 box(short=7000)
 exchanged(162, LONG, 4000, 1100)
@@ -375,7 +375,7 @@ for edge in (SHORT, LONG):
     given(170, LONG, 8999, clock=50000)
     booked(170, ACK, 0)
     box(9000, 8999)
-    ticket = "167:9:16:5:50:60000:50000,168:9:16:4:19:60000:50000"
+    ticket = "167:9:16:5:50:60000:50000:0,168:9:16:4:19:60000:50000:0"
     desk(171, ticket)
 
 # ---- 62: attenuation from 0 to 1000, ahead of the desk's; many may be out
@@ -389,7 +389,7 @@ for value in (1001, 1002, 1024, 32768, 65535):
     refused(62, ATT, value, wait=0, room=0)
 refused(14, ATT, 1000, wait=0)
 box()
-desk(166, ",".join(f"{address}:9:16:5:50:60000:0" for address in HOSTS[:5]))
+desk(166, ",".join(f"{address}:9:16:5:50:60000:0:0" for address in HOSTS[:5]))
 for address, end in zip(HOSTS, (ACK, NACK, CHECK_ERROR, BUSY, ACK)):
     booked(address, end, ATT)
     box()
@@ -626,7 +626,7 @@ given(162, LONG, 4000)
 box(7000, "?", "162:long:4000")
 making()
 box()
-desk(163, "162:9:16:5:52:60000:0")  # the desk still has it
+desk(163, "162:9:16:5:52:60000:0:0")  # the desk still has it
 booked(162, ACK, LONG)
 box()
 given(163, SHORT, 3000)
@@ -705,6 +705,6 @@ for status, answer in (
     moving(status, answer)
 bad("varia.moving 65536", "varia.moving -1", "varia.moving -", "varia.moving 0 0", "varia.moving 1000h")
 box(out="161:short:1")
-desk(162, "161:9:16:5:51:60000:0")
+desk(162, "161:9:16:5:51:60000:0:0")
 
 printed()

@@ -1,6 +1,6 @@
 """What the scripts beside it share: the bytes of telegrams, worked out by long division, call lines with the words of
-their answers, and how many addresses an opening considers. Nothing here follows a desk or a box: a script says itself
-which address is given, and the turn stands behind that one."""
+their answers, and how many addresses an opening considers. Nothing here follows a desk, a box or lanes: a script says
+itself which address is given, and the turn stands behind that one, and which folder a ticket has, 0 for none."""
 import itertools
 import re
 import sys
@@ -100,7 +100,7 @@ def refusal(number, would=None):
     assert (number == 16) == (would is not None)
     if number in (59, 62, 63):
         return f"no {number}"
-    count = way(would) if number == 16 else {10: 0, 11: 0, 12: 0, 13: 0, 14: 0, 15: 95}[number]
+    count = way(would) if number == 16 else {10: 0, 11: 0, 12: 0, 13: 0, 14: 0, 75: 0, 15: 95}[number]
     return f"no {number} count={count}"
 
 
@@ -113,20 +113,35 @@ def new():
     say("desk.new", "ok")
 
 
-def opening(job, module, sort, register, data, wait, clock, room):
-    return f"desk.open {job} {module} {sort} {register} {data.hex() or '-'} {wait} 0 {clock} {lent(room)}"
+def opening(job, module, sort, register, data, wait, folder, clock, room):
+    return f"desk.open {job} {module} {sort} {register} {data.hex() or '-'} {wait} {folder} {clock} {lent(room)}"
 
 
-def given(address, clock, job=None, wait=60000, module=15, sort=READ, register=102, data=b"", room=ROOM):
+def given(address, clock, job=None, wait=60000, module=15, sort=READ, register=102, data=b"", room=ROOM, folder=0):
     """An opening, by a job of the address' own number where no other is named: this address is given."""
     frame = telegram(module, address, sort, register, data)
-    call = opening(address if job is None else job, module, sort, register, data, wait, clock, room)
+    call = opening(address if job is None else job, module, sort, register, data, wait, folder, clock, room)
     say(call, f"ok address={address} n={len(frame)} count={taken(address)} buf={lent(room, frame)}")
 
 
-def not_given(number, clock, would=None, job=1, wait=60000, module=15, sort=READ, register=102, data=b"", room=ROOM):
+def not_given(
+    number, clock, would=None, job=1, wait=60000, module=15, sort=READ, register=102, data=b"", room=ROOM, folder=0
+):
     """An opening that is refused; with 16, this address would have been given."""
-    say(opening(job, module, sort, register, data, wait, clock, room), f"{refusal(number, would)} buf={lent(room)}")
+    call = opening(job, module, sort, register, data, wait, folder, clock, room)
+    say(call, f"{refusal(number, would)} buf={lent(room)}")
+
+
+# what 10 to 14 are told of
+FAULTS = (
+    (10, dict(job=0)), (11, dict(module=0)), (11, dict(module=161)), (11, dict(module=255)), (12, dict(sort=3)),
+    (12, dict(sort=8)), (12, dict(sort=10)), (12, dict(sort=255)), (13, dict(data=b"\x03")),
+    (13, dict(sort=WRITE, data=bytes(241))), (14, dict(wait=0)), (14, dict(wait=60001)), (14, dict(wait=WRAP - 1)),
+    # and with all that come behind it
+    (13, dict(data=b"\x03", wait=0)), (12, dict(sort=3, data=bytes(241), wait=60001)),
+    (11, dict(module=161, sort=3, data=bytes(241), wait=0)),
+    (10, dict(job=0, module=0, sort=255, data=bytes(241), wait=0)),
+)
 
 
 def fill(clock, wait=60000, short=()):
@@ -136,17 +151,17 @@ def fill(clock, wait=60000, short=()):
         given(address, clock, wait=100 if address in short else wait)
 
 
-def cancelled(address, clock, job=None):
+def cancelled(address, clock, job=None, folder=0):
     job = address if job is None else job
-    say(f"desk.cancel {job} {address} {clock}", f"ok job={job} address={address}")
+    say(f"desk.cancel {job} {address} {clock}", f"ok job={job} address={address} folder={folder}")
 
 
 def no_cancel(address, clock, job=None):
     say(f"desk.cancel {address if job is None else job} {address} {clock}", "no 21")
 
 
-def expired(address, clock, job=None):
-    say(f"desk.expire {clock}", f"ok job={address if job is None else job} address={address}")
+def expired(address, clock, job=None, folder=0):
+    say(f"desk.expire {clock}", f"ok job={address if job is None else job} address={address} folder={folder}")
 
 
 def no_expiry(clock):
@@ -154,18 +169,19 @@ def no_expiry(clock):
 
 
 def every(clock, room, expired=()):
-    """All that is due: these expire in this order, each an address of the job of its own number, or job and address;
-    all other entries of the list stay."""
-    entries = [f"{one}:{one}" if isinstance(one, int) else f"{one[0]}:{one[1]}" for one in expired]
+    """All that is due: these expire in this order, each an address of the job of its own number, or job and address, or
+    these and a folder; all other entries of the list stay."""
+    each = [(one, one) if isinstance(one, int) else one for one in expired]
+    entries = ["{}:{}:{}".format(*one, 0) for one in each]  # 0 where no folder is named
     stayed = ["."] * (room - len(entries))
     assert len(entries) <= room
     say(f"desk.expall {clock} {room}", f"ok n={len(entries)} list={','.join(entries + stayed) or '-'}")
 
 
-def booked(address, job=None, module=15, sort=DATAGRAM, register=102, data=b"\x34\x12", room=4):
+def booked(address, job=None, module=15, sort=DATAGRAM, register=102, data=b"\x34\x12", room=4, folder=0):
     frame = telegram(address, module, sort, register, data)
     job = address if job is None else job
-    said = f"ok job={job} address={address} type={sort} n={len(data)} buf={lent(room, data)}"
+    said = f"ok job={job} address={address} type={sort} n={len(data)} folder={folder} buf={lent(room, data)}"
     say(f"desk.reply {frame.hex()} {lent(room)}", said)
 
 
@@ -175,6 +191,20 @@ def not_booked(number, address, source=15, sort=DATAGRAM, register=102, data=b"\
     say(f"desk.reply {frame.hex()} {lent(room)}", f"no {number} buf={lent(room)}")
 
 
+def misread(address):
+    """Replies to a ticket that is or was on this address, which the frame reader refuses."""
+    right = telegram(address, 15, DATAGRAM, 102, b"\x34\x12")
+    not_booked(1, address, frame=right[:-1])
+    not_booked(2, address, frame=right[:-1] + b"\r\n")
+    not_booked(f"3 place={len(right) - 1}", address, frame=right[:-1] + b"\x5e\n")
+    not_booked(4, address, frame=right[:5] + b"\n")
+    not_booked(5, address, data=bytes(241))
+    not_booked(6, address, room=1)
+    not_booked(7, address, frame=right[:-2] + bytes([right[-2] ^ 1]) + b"\n")
+    not_booked(8, address, source=0)
+    not_booked(9, address, sort=11)
+
+
 def desk(turn, tickets="-", closed="-"):
     """The desk as it is shown, its turn stated once more by hand."""
     assert turn == standing
@@ -182,8 +212,9 @@ def desk(turn, tickets="-", closed="-"):
 
 
 def shown(turn, tickets, closed):
-    """The desk: tickets as a list of (address, job, wait, opened) or as they are shown, closings of (address, clock)."""
-    each = [one if isinstance(one, str) else "{}:{}:15:4:102:{}:{}".format(*one) for one in tickets]
+    """The desk: tickets as a list of (address, job, wait, opened), with a folder behind them where they have one, or as
+    they are shown, closings of (address, clock)."""
+    each = [one if isinstance(one, str) else "{}:{}:15:4:102:{}:{}:{}".format(*one, 0) for one in tickets]
     desk(turn, ",".join(each) or "-", ",".join(f"{address}:{clock}" for address, clock in closed) or "-")
 
 
@@ -228,3 +259,63 @@ def refused(number, register, value=None, clock=0, wait=60000, room=16, would=No
 
 def box(short="?", long="?", out="-"):
     say("varia.dump", f"ok short={short} long={long} out={out}")
+
+
+# ---- the lanes' calls
+
+ENOUGH = 494  # bytes, which a grant wants
+
+
+def request(job, register, module=15, sort=READ, data=b"", wait=60000, folder=0):
+    """A request as lane.dump shows it."""
+    return f"{job}:{module}:{sort}:{register}:{data.hex() or '-'}:{wait}:{folder}"
+
+
+def joining(job, register, **how):
+    return "lane.join " + request(job, register, **how).replace(":", " ")
+
+
+def joined(lane, at, job, register, **how):
+    """The request takes this place in this lane."""
+    say(joining(job, register, **how), f"ok lane={lane} at={at}")
+
+
+def not_joined(number, job, register=102, **how):
+    say(joining(job, register, **how), f"no {number}")
+
+
+def granted(job, address, clock, register, module=15, sort=READ, data=b"", room=ENOUGH):
+    """A grant opens this job's request, and this address is given."""
+    frame = telegram(module, address, sort, register, data)
+    said = f"ok job={job} address={address} n={len(frame)} count={taken(address)} buf={lent(room, frame)}"
+    say(f"lane.grant {clock} {lent(room)}", said)
+
+
+def not_granted(number, clock=0, room=ENOUGH):
+    """73 and 74 are the lanes' own and have no count."""
+    said = f"no {number}" if number in (73, 74) else refusal(number)
+    say(f"lane.grant {clock} {lent(room)}", f"{said} buf={lent(room)}")
+
+
+def taken_out(job, clock=0, room=ENOUGH):
+    """A grant comes to this job's request, whose folder another job holds."""
+    say(f"lane.grant {clock} {lent(room)}", f"no 75 job={job} count=0 buf={lent(room)}")
+
+
+def withdrawn(job, place):
+    say(f"lane.withdraw {job} {place}", "ok")
+
+
+def not_withdrawn(job, *places):
+    for place in places:
+        say(f"lane.withdraw {job} {place}", "no 55")
+
+
+def lanes(last, held={}):
+    """The lane last served, and those that hold something: requests as they are shown, or job and register, with a folder
+    behind them where they have one."""
+    each = {
+        lane: ",".join(one if isinstance(one, str) else request(*one[:2], folder=(*one, 0)[2]) for one in held[lane])
+        for lane in held
+    }
+    say("lane.dump", f"ok last={last} lanes=" + "|".join(each.get(lane, "-") for lane in range(1, 17)))

@@ -9,6 +9,9 @@ use crate::random::Random;
 use crate::telegram::{frame, Message, No, MOST_DATA};
 use crate::varia::Varia;
 
+/// Folders that jobs come to want together: few small ones, none, the largest, and such as are 1 or none in fewer bits.
+const FOLDERS: [u32; 11] = [0, 1, 1, 1, 2, 2, 3, 257, 65536, 65537, u32::MAX];
+
 /// A walk under way: the script, the clock on the wall, and the last reply that was offered rightly.
 pub struct Walk<'a> {
     script: &'a mut Script,
@@ -16,9 +19,14 @@ pub struct Walk<'a> {
     last_reply: String,
 }
 
-/// The start of every script: calls on the desk before any was made are on a fresh one.
+/// The start of every script: calls on the desk before any was made are on a fresh one, replies that nobody asked for
+/// among them.
 pub fn no_desk_yet(script: &mut Script) {
     let mut walk = Walk { script, clock: 4294967290, last_reply: "desk.dump".to_string() };
+    for address in [1, 160, 200] {
+        let reply = Message { dest: address, source: 15, type_no: 8, register: 102, data: vec![7] };
+        walk.reply_with(&reply.telegram(), 2);
+    }
     walk.dump();
     walk.wrong_cancel();
     walk.expire_now();
@@ -185,7 +193,8 @@ impl<'a> Walk<'a> {
     pub fn step(&mut self) {
         self.tick();
         match self.random().below(32) {
-            0..=9 => self.open(),
+            0..=6 => self.open(),
+            7..=9 => self.open_on_any_folder(),
             10 | 11 => self.any_refused_open(),
             12..=15 => self.right_reply(),
             16..=19 => self.misfit(),
@@ -200,8 +209,28 @@ impl<'a> Walk<'a> {
         }
     }
 
+    /// A folder that other jobs may want, or have.
+    pub fn any_folder(&mut self) -> u32 {
+        self.random().pick(&FOLDERS)
+    }
+
+    /// A folder that another job than this one holds, if there is any.
+    fn held_folder(&mut self, job: u32) -> Option<u32> {
+        let others = self.desk().tickets.values().filter(|ticket| ticket.folder != 0 && ticket.job != job);
+        let folders: Vec<u32> = others.map(|ticket| ticket.folder).collect();
+        (!folders.is_empty()).then(|| self.random().pick(&folders))
+    }
+
     /// A request that can be opened.
     pub fn request(&mut self) -> Request {
+        let random = self.random();
+        let job = if random.one_in(4) { random.word().max(1) } else { random.pick(&[1, 2, 3, 7, 4294967295]) };
+        self.request_of(job)
+    }
+
+    /// The same of this job. Its folder is none, or has the job's own number, so that no other job's such request
+    /// is on it.
+    pub fn request_of(&mut self, job: u32) -> Request {
         let clock = self.clock;
         let random = self.random();
         let type_no = random.pick(&[4, 4, 4, 5, 5, 6, 7, 9]);
@@ -211,7 +240,7 @@ impl<'a> Walk<'a> {
             (_, false) => random.pick(&[0, 1, 2, 4, 8]),
         };
         Request {
-            job: if random.one_in(4) { random.word().max(1) } else { random.pick(&[1, 2, 3, 7, 4294967295]) },
+            job,
             module: if random.one_in(2) {
                 random.between(1, 160) as u8
             } else {
@@ -221,6 +250,7 @@ impl<'a> Walk<'a> {
             register: if random.one_in(6) { 0 } else { random.byte() },
             data: data(random, length),
             wait: random.pick(&[1, 2, 100, 500, 3000, 59999, 60000]),
+            folder: random.pick(&[0, job]),
             clock,
         }
     }
@@ -232,8 +262,7 @@ impl<'a> Walk<'a> {
 
     /// Adds an opening with a buffer of that length.
     fn open_with(&mut self, request: &Request, room: usize) {
-        let Request { job, module, type_no, register, data, wait, clock } = request;
-        let folder = self.random().pick(&[0, 1, 77, u32::MAX]);
+        let Request { job, module, type_no, register, data, wait, folder, clock } = request;
         let (data, buf) = (hex(data), hex(&buffer(room)));
         self.script.call(format!("desk.open {job} {module} {type_no} {register} {data} {wait} {folder} {clock} {buf}"));
     }
@@ -251,6 +280,12 @@ impl<'a> Walk<'a> {
         self.open_with(request, room);
     }
 
+    /// The same on a folder that other jobs may want: 75 where one has it.
+    pub fn open_on_any_folder(&mut self) {
+        let request = Request { folder: self.any_folder(), ..self.request() };
+        self.open_for(&request);
+    }
+
     /// A right opening with too little room: 16, or 15 where each address is open or rests.
     pub fn open_short(&mut self) {
         let request = self.request();
@@ -259,21 +294,25 @@ impl<'a> Walk<'a> {
         self.open_with(&request, room);
     }
 
-    /// An opening that is refused with one of the rows 10 to 14 or 16, with later faults by chance.
+    /// An opening that is refused with one of the rows 10 to 14, 75 or 16, with later faults by chance.
     pub fn any_refused_open(&mut self) {
-        let row = self.random().pick(&[10, 11, 12, 13, 14, 16, 16]);
+        let row = self.random().pick(&[10, 11, 12, 13, 14, 75, 75, 16, 16]);
         self.refused_open(row);
     }
 
-    /// The same by this row.
+    /// The same by this row; by 16 for 75 where no other job holds a folder.
     pub fn refused_open(&mut self, row: No) {
         let mut request = self.request();
         let random = self.random();
         for no in (row..=14).filter(|no| *no == row || random.one_in(3)).collect::<Vec<No>>() {
             spoil_request(random, &mut request, no);
         }
+        let is_held = row == 75 || (row < 15 && self.random().one_in(3));
+        let held = self.held_folder(request.job).filter(|_| is_held);
+        request.folder = held.unwrap_or(request.folder);
         let needed = self.telegram_length(&request);
-        let room = if row == 16 { too_little(self.random(), needed) } else { room(self.random(), needed) };
+        let is_short = row == 16 || (row == 75 && held.is_none());
+        let room = if is_short { too_little(self.random(), needed) } else { room(self.random(), needed) };
         self.open_with(&request, room);
     }
 

@@ -21,7 +21,7 @@ const NO_PLACES: [u64; 7] = [0, 5, 6, 256, 4294967296, 4294967297, u64::MAX];
 /// Lengths of data, from none to the most.
 const LENGTHS: [usize; 10] = [0, 1, 2, 17, 120, 238, 239, MOST_DATA, MOST_DATA, MOST_DATA];
 /// The longest waiting time.
-const LONGEST_WAIT: u32 = 60000;
+pub const LONGEST_WAIT: u32 = 60000;
 /// How many steps a run has before all that waits is granted.
 const RUN: usize = 250;
 
@@ -62,20 +62,19 @@ fn waiting_job(walk: &mut Walk) -> Option<(u32, usize)> {
 }
 
 /// Adds the lanes' state to the script.
-fn dump(walk: &mut Walk) {
+pub fn dump(walk: &mut Walk) {
     walk.add("lane.dump");
 }
 
 /// Adds a joining of this request.
-fn join_with(walk: &mut Walk, request: &Request) {
-    let Request { job, module, type_no, register, data, wait, .. } = request;
-    let folder = walk.random().pick(&[0, 1, 1, 77, u32::MAX]);
+pub fn join_with(walk: &mut Walk, request: &Request) {
+    let Request { job, module, type_no, register, data, wait, folder, .. } = request;
     walk.add(format!("lane.join {job} {module} {type_no} {register} {} {wait} {folder}", hex(data)));
 }
 
 /// A right request of this job joins, or is refused for want of a lane or of room in it.
 fn join(walk: &mut Walk, job: u32) {
-    let request = Request { job, ..walk.request() };
+    let request = walk.request_of(job);
     join_with(walk, &request);
 }
 
@@ -90,7 +89,7 @@ fn fill_lane(walk: &mut Walk, job: u32) {
 
 /// A request of this job that is refused with this row when it joins, with later ones by chance.
 fn refused_join(walk: &mut Walk, job: u32, row: No) {
-    let mut request = Request { job, ..walk.request() };
+    let mut request = walk.request_of(job);
     let random = walk.random();
     for no in (row..=14).filter(|no| *no == row || random.one_in(3)).collect::<Vec<No>>() {
         spoil_request(random, &mut request, no);
@@ -111,18 +110,18 @@ fn grant_with(walk: &mut Walk, room: usize) -> String {
 }
 
 /// A grant with enough room.
-fn grant(walk: &mut Walk) -> String {
+pub fn grant(walk: &mut Walk) -> String {
     let room = walk.random().pick(&ROOMS);
     grant_with(walk, room)
 }
 
 /// Adds a withdrawal.
-fn withdraw(walk: &mut Walk, job: u32, place: u64) {
+pub fn withdraw(walk: &mut Walk, job: u32, place: u64) {
     walk.add(format!("lane.withdraw {job} {place}"));
 }
 
 /// Withdraws a request that waits, if any.
-fn right_withdrawal(walk: &mut Walk) {
+pub fn right_withdrawal(walk: &mut Walk) {
     if let Some((job, waiting)) = waiting_job(walk) {
         let place = walk.random().between(1, waiting) as u64;
         withdraw(walk, job, place);
@@ -288,7 +287,7 @@ pub fn rooms(script: &mut Script) {
             grant_with(&mut walk, room);
         }
         for job in &jobs[..3] {
-            let request = Request { job: *job, type_no: 4, data: Vec::new(), ..walk.request() };
+            let request = Request { type_no: 4, data: Vec::new(), ..walk.request_of(*job) };
             join_with(&mut walk, &request);
         }
         for room in SHORT_ROOMS {
@@ -349,7 +348,7 @@ pub fn lengths(script: &mut Script) {
     walk.random().shuffle(&mut lengths);
     for (length, job) in lengths.into_iter().zip(jobs.iter().cycle()) {
         let type_no = walk.random().pick(&[5, 6, 7, 9]);
-        let request = Request { job: *job, type_no, data: data(walk.random(), length), ..walk.request() };
+        let request = Request { type_no, data: data(walk.random(), length), ..walk.request_of(*job) };
         join_with(&mut walk, &request);
     }
     for length in [MOST_DATA, MOST_DATA + 1] {
@@ -414,7 +413,7 @@ pub fn boxes(script: &mut Script) {
         varia_walk::dump(&mut walk);
         end(&mut walk, ACK);
         join(&mut walk, own);
-        let beside = Request { job: own, ..walk.request() };
+        let beside = walk.request_of(own);
         walk.open_for(&beside);
         wish(&mut walk, Wish::Status);
         grant(&mut walk);
@@ -457,7 +456,7 @@ pub fn mixed(script: &mut Script) {
                 wish(&mut walk, wished);
             }
             18 => {
-                let beside = Request { job, ..walk.request() };
+                let beside = walk.request_of(job);
                 walk.open_for(&beside);
             }
             _ => walk.open(),
@@ -487,7 +486,8 @@ enum Step {
 
 /// A run to hold the promise of a fair turn against: joinings, withdrawals, grants, direct openings and closings, of
 /// each as many as the seed wills, by few jobs or by more than there are lanes, one of them in a hurry now and then,
-/// and on a desk that is full now and then. Each request has data of its own. At last all that still waits is granted.
+/// on folders that others hold now and then, and on a desk that is full now and then. Each request has data of its own.
+/// At last all that still waits is granted.
 pub fn run(script: &mut Script) {
     let mut walk = Walk::new(script);
     let count = walk.random().pick(&[5, 8, 16, 17, 24]);
@@ -508,12 +508,13 @@ pub fn run(script: &mut Script) {
                 let any = walk.random().pick(&jobs);
                 let job = if walk.random().one_in(hurry) { any } else { jobs[0] };
                 let data = serial.to_be_bytes().to_vec();
-                let request = Request { job, type_no: 5, data, ..walk.request() };
+                let folder = walk.any_folder();
+                let request = Request { type_no: 5, data, folder, ..walk.request_of(job) };
                 join_with(&mut walk, &request);
             }
             Step::Grant => drop(grant(&mut walk)),
             Step::Withdraw => right_withdrawal(&mut walk),
-            Step::Open => walk.open(),
+            Step::Open => walk.open_on_any_folder(),
             Step::Close => walk.close_one(),
             Step::ExpireAll => walk.expire_all(walk.clock, usize::from(HOSTS)),
         }

@@ -279,6 +279,27 @@ const NO_LANE_CALLS: [&str; 40] = [
     "Lane.dump",
 ];
 
+/// Folders as they may stand in a line, 1 and such as would be 1 or none of a narrower type first, then the largest;
+/// and what is no folder.
+const FOLDER_WORDS: [&str; 16] = [
+    "1",
+    "0000000001",
+    "257",
+    "65537",
+    "0",
+    "256",
+    "65536",
+    "4294967295",
+    "4294967296",
+    "4294967297",
+    "18446744073709551617",
+    "-1",
+    "+1",
+    "",
+    "-",
+    "0x1",
+];
+
 /// Every call with numbers from all over their types.
 pub fn any_numbers(script: &mut Script) {
     for _ in 0..9 {
@@ -471,6 +492,20 @@ pub fn lane_lines(script: &mut Script) {
     script.call("lane.join 9 15 5 48 - 1 0");
     script.call(format!("lane.withdraw 9 {:040}", 1));
     script.call("lane.dump");
+}
+
+/// Openings of one job, and joinings of another that are granted at once, with each of those words for a folder; job 7
+/// has the folder 1 before.
+pub fn folder_lines(script: &mut Script) {
+    let (short, enough) = (hex(&buffer(12)), hex(&buffer(LONGEST_TELEGRAM)));
+    script.call("desk.new");
+    script.call(format!("desk.open 7 15 4 102 - 1000 1 0 {short}"));
+    for folder in FOLDER_WORDS {
+        script.call(format!("lane.join 8 15 4 102 - 1000 {folder}"));
+        script.call(format!("lane.grant 300 {enough}"));
+        script.call(format!("desk.open 9 15 4 102 - 1000 {folder} 300 {short}"));
+    }
+    script.call("desk.dump");
 }
 
 /// A call on the lanes with words of any value; jobs and places are low in half of the cases.

@@ -375,7 +375,7 @@ fn open_beside(walk: &mut Walk) {
     if !walk.random().one_in(3) {
         let job = walk.random().pick(&[job, job, request.job]);
         let register = walk.random().pick(&[0x33, 0x34]);
-        request = Request { job, module, type_no: 5, register, data: vec![1, 1], ..request };
+        request = Request { module, type_no: 5, register, data: vec![1, 1], ..walk.request_of(job) };
     }
     walk.open_for(&request);
 }
