@@ -493,3 +493,13 @@ any-evening evening =
       one-out = λ a b p q v w this that. edge-is (sym (f .is-out a p v .1 this) ∙ f .is-out b q w .1 that);
       in-order = λ x y short long. f .ordered x y (f .known Short x .1 short) (f .known Long y .1 long);
     }
+
+-- the desk beside the box is that of a night: what its callers saw there, and all that a night keeps to
+pub night-beside : {job unit : ℕ} {box : FilterBox} {desk : Desk} {past : List Event} → Evening job unit box desk past → (seen : List Seen) × Night desk seen
+night-beside evening = let s = stands-any evening in (s .seen, s .night)
+
+-- 02, #110, with the box's calls among them: "No two open tickets of different jobs may hold the same folder other than 0"
+pub folders-apart-beside : {job unit : ℕ} {box : FilterBox} {desk : Desk} {past : List Event} → Evening job unit box desk past → (a b : ℕ)
+    → ticketOn desk a .live ≡ true → ticketOn desk b .live ≡ true → ticketOn desk a .asked .job ≢ ticketOn desk b .asked .job
+    → ticketOn desk a .asked .folder ≢ 0 → ticketOn desk a .asked .folder ≢ ticketOn desk b .asked .folder
+folders-apart-beside evening = stands-any evening .night .apart

@@ -2,7 +2,7 @@
 -- Assumes nothing.
 use mathlib.Core.Path.{_≡_, refl, sym, ap, subst, _∙_}
 use mathlib.Core.Bool.{Bool, true, false, cond}
-use mathlib.Core.List.{List, [], _∷_}
+use mathlib.Core.List.{List, [], _∷_, _++_}
 use mathlib.Core.Logic.{_≢_, _⊎_, _↔_, inl, inr, ⊎-elim}
 use mathlib.Core.Option.{none, some}
 use Prim.Native.Nat.{ℕ}
@@ -17,6 +17,7 @@ use Rattle.desk.specs.Open.{openTold, Opens}
 use Rattle.desk.specs.declared.AfterOpen.{AfterOpen}
 use Rattle.desk.specs.declared.Desk.{Desk}
 use Rattle.nights.proofs.Laws.{any-night, night-on, step, open-last}
+use Rattle.nights.proofs.Plainly.{Within, among-plainly}
 use Rattle.nights.specs.Between.{Closes, ClosedIn}
 use Rattle.nights.specs.Night.{Call, Event, after, eventOf, afterAll, answeredAll, Last, lastOn, MayBeGiven, Right, kept, Kept, Night}
 use Rattle.nights.specs.Night.{opened, booked, withdrawn, nothing, stands, answered, givenUp}
@@ -152,3 +153,37 @@ pub closes-plainly : (a job address source sort register folder clock : ℕ) (as
     × (Closes a (withdrawn job address folder clock) ↔ (address ≡ a))
     × (Closes a nothing → ⊥)
 closes-plainly a job address source sort register folder clock asked = (λ e. e, (λ e. e, λ e. e), (λ e. e, λ e. e), λ e. e)
+
+module _ (a : ℕ) where
+  abbrev SawClosed : Event → Type 0
+  SawClosed e = ((job : ℕ) × (source : ℕ) × (sort : ℕ) × (register : ℕ) × (folder : ℕ) × (e ≡ booked job a source sort register folder))
+      ⊎ ((job : ℕ) × (folder : ℕ) × (clock : ℕ) × (e ≡ withdrawn job a folder clock))
+
+  closes-saw : (e : Event) → Closes a e → SawClosed e
+  closes-saw (opened address asked clock) c = absurd c
+  closes-saw (booked job address source sort register folder) c =
+      inl (job, source, sort, register, folder, ap (λ (x : ℕ). booked job x source sort register folder) c)
+  closes-saw (withdrawn job address folder clock) c = inr (job, folder, clock, ap (λ (x : ℕ). withdrawn job x folder clock) c)
+  closes-saw nothing c = absurd c
+
+  saw-closes : (e : Event) → SawClosed e → Closes a e
+  saw-closes e s =
+      ⊎-elim (λ b. subst (Closes a) (sym (b .5)) refl) (λ w. subst (Closes a) (sym (w .3)) refl) s
+
+  -- among the calls there is one, on the desk that those before it left, by which its caller was answered that very address, with a reply or as
+  -- given up
+  pub closed-in-plainly : (desk : Desk) (calls : List Call)
+      → ClosedIn desk calls a
+      ↔ ((before : List Call)
+      × (call : Call)
+      × (later : List Call)
+      × (calls ≡ before ++ (call ∷ later))
+      × (((job : ℕ) × (source : ℕ) × (sort : ℕ) × (register : ℕ) × (folder : ℕ) × (eventOf (afterAll desk before) call ≡ booked job a source sort register folder))
+      ⊎ ((job : ℕ) × (folder : ℕ) × (clock : ℕ) × (eventOf (afterAll desk before) call ≡ withdrawn job a folder clock))))
+  closed-in-plainly desk calls =
+      let plainly = among-plainly (λ d c. Closes a (eventOf d c)) calls desk in (
+        λ closed.
+            let q = plainly .0 closed in
+            (q .0, q .1, q .2 .later, q .2 .parted, closes-saw (eventOf (afterAll desk (q .0)) (q .1)) (q .3)),
+        λ p. plainly .1 (p .0, p .1, record { later = p .2; parted = p .3 }, saw-closes (eventOf (afterAll desk (p .0)) (p .1)) (p .4)),
+      )

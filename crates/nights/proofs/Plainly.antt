@@ -1,7 +1,7 @@
 -- What the definitions of nights and rounds mean, said out: each is used in the laws of the files beside this one.
 -- Assumes nothing.
 use mathlib.Core.Path.{_≡_, refl, sym, ap, _∙_}
-use mathlib.Core.Bool.{Bool, true, cond, not, _&&_}
+use mathlib.Core.Bool.{Bool, true, false, cond, not, _&&_}
 use mathlib.Core.List.{List, [], _∷_, _++_}
 use mathlib.Core.Logic.{_≢_, _⊎_, _↔_, inl, inr, ⊎-elim}
 use Prim.Native.Nat.{ℕ, suc, _+_, _%_, _<_}
@@ -10,12 +10,13 @@ use borrow.Author.Tests.{eq-eqb, ne-eqb}
 use lib.Dec.{eqb}
 use Rattle.request.specs.declared.Request.{Request}
 use Rattle.ticket.specs.Due.{age}
-use Rattle.desk.specs.Desk.{ticketAt}
+use Rattle.ticket.specs.Ticket.{noTicket, withdrawnAt}
+use Rattle.desk.specs.Desk.{ticketAt, ticketOn}
 use Rattle.desk.specs.Open.{distanceOf, givenPlace}
 use Rattle.desk.specs.declared.Desk.{Desk}
 use Rattle.nights.proofs.Fair.{gives-opening, opens-or-stays}
-use Rattle.nights.specs.Night.{Call, Event, after, eventOf, afterAll, lastOn}
-use Rattle.nights.specs.Night.{opened, booked, withdrawn, nothing, stands, answered, givenUp}
+use Rattle.nights.specs.Night.{Call, Event, after, eventOf, afterAll, lastOn, Right, kept, Kept, SoundDesk, Night}
+use Rattle.nights.specs.Night.{opened, booked, withdrawn, nothing, never, stands, answered, givenUp}
 use Rattle.nights.specs.Round.{GivesAt, Gives, PassesOver, Among, Each, oneOpening, countOf, isClear, othersFree}
 
 -- ---- of one of the calls, of each of them
@@ -133,3 +134,21 @@ unfolding lastOn
 last-elsewhere past asked clock job source sort register folder address a other =
     let differ = ne-eqb a address other in
     (rw differ, rw differ, rw differ)
+
+-- ---- what a night so far is
+
+pub night-plainly : {desk : Desk} {past : List Event} → Night desk past
+    → SoundDesk desk
+    × ((a b : ℕ) → ticketOn desk a .live ≡ true → ticketOn desk b .live ≡ true → ticketOn desk a .asked .job ≢ ticketOn desk b .asked .job
+    → ticketOn desk a .asked .folder ≢ 0 → ticketOn desk a .asked .folder ≢ ticketOn desk b .asked .folder)
+    × ((address : ℕ) → ticketOn desk address ≡ kept (lastOn past address))
+    × Right past
+unfolding Kept
+night-plainly n = (n .sound, n .apart, n .kept, n .right)
+
+pub kept-plainly : (asked : Request) (clock : ℕ)
+    → (kept never ≡ noTicket)
+    × (kept (stands asked clock) ≡ record { live = true; asked = asked; opened = clock; withdrawn = false; closed = 0 })
+    × (kept answered ≡ noTicket)
+    × (kept (givenUp clock) ≡ withdrawnAt clock)
+kept-plainly asked clock = (refl, refl, refl, refl)

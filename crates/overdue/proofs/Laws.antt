@@ -434,6 +434,16 @@ night-swept calls clock list r list′ p more =
     (subst (λ (past : List Event). Night (afterAll (afterAll freshDesk (calls ++ sweep)) more) past) (two .1)
     (subst (λ (d : Desk). Night d (answeredAll freshDesk [] ((calls ++ sweep) ++ more))) (two .0) (any-night ((calls ++ sweep) ++ more)))))
 
+-- 02, #110, with a sweep among the calls: "No two open tickets of different jobs may hold the same folder other than 0"
+pub folders-apart-swept : (calls : List Call) (clock : ℕ) (list : List ℕ) (r : Swept) (list′ : List ℕ) → ExpiresAll (afterAll freshDesk calls) clock list r list′
+    → (more : List Call) (a b : ℕ)
+    → ticketOn (afterAll (r .desk) more) a .live ≡ true
+    → ticketOn (afterAll (r .desk) more) b .live ≡ true
+    → ticketOn (afterAll (r .desk) more) a .asked .job ≢ ticketOn (afterAll (r .desk) more) b .asked .job
+    → ticketOn (afterAll (r .desk) more) a .asked .folder ≢ 0
+    → ticketOn (afterAll (r .desk) more) a .asked .folder ≢ ticketOn (afterAll (r .desk) more) b .asked .folder
+folders-apart-swept calls clock list r list′ p more = night-swept calls clock list r list′ p more .apart
+
 -- a part of an entry is no entry
 pub told-part : (job address clock : ℕ) (past : List Event) → (told (job ∷ []) clock past ≡ past) × (told (job ∷ address ∷ []) clock past ≡ past)
 unfolding told

@@ -14,10 +14,12 @@ use Rattle.nights.specs.Between.{ClosedIn}
 use Rattle.nights.specs.Night.{Call, after, eventOf, afterAll, answeredAll, lastOn}
 use Rattle.nights.specs.Night.{opened, booked, withdrawn, stands}
 -- no two open tickets of different jobs hold the same folder, and "Nothing reported an error": who asks for one that is held is told 75
-pub use Rattle.nights.proofs.Between.{folders-apart, held-then, closes-plainly}
--- with lanes in front it is a night at the desk, and with sweeps too
-pub use Rattle.turns.proofs.Laws.{any-night-behind}
-pub use Rattle.overdue.proofs.Laws.{night-swept}
+pub use Rattle.nights.proofs.Between.{folders-apart, held-then, closes-plainly, closed-in-plainly}
+-- with lanes in front it is a night at the desk, and with sweeps and beside a filter box too
+pub use Rattle.nights.proofs.Plainly.{night-plainly}
+pub use Rattle.turns.proofs.Laws.{any-night-behind, folders-apart-behind}
+pub use Rattle.overdue.proofs.Laws.{night-swept, folders-apart-swept}
+pub use Rattle.evenings.proofs.Laws.{night-beside, folders-apart-beside}
 
 -- after any calls one call opened a ticket, any calls later another did
 module _ (before : List Call) (first : Call) (between : List Call) (second : Call) (address other : ℕ) (asked theirs : Request) (clock clock′ : ℕ)

@@ -4,6 +4,7 @@
 use mathlib.Core.Path.{_≡_, refl, sym, ap, subst, _∙_}
 use mathlib.Core.Bool.{Bool, true, false, cond}
 use mathlib.Core.List.{List, [], _∷_, _++_}
+use mathlib.Core.Logic.{_≢_}
 use mathlib.Core.Option.{Option, some, none}
 use Prim.Native.Nat.{ℕ, suc, _+_, _-_, _≤_, _<_}
 use native.Mathlib.Omega.{arith}
@@ -18,7 +19,7 @@ use Rattle.request.specs.declared.Request.{Request}
 use Rattle.telegram.proofs.Send.{telegram-long, length-messageFor}
 use Rattle.telegram.specs.Write.{messageFor}
 use Rattle.desk.proofs.Ranking.{decides-none-free, decides-folder-held}
-use Rattle.desk.specs.Desk.{freshDesk}
+use Rattle.desk.specs.Desk.{freshDesk, ticketOn}
 use Rattle.desk.specs.Folder.{IsFolderHeld, isFolderHeld}
 use Rattle.desk.specs.Open.{distanceOf, givenPlace, requestAt, openRefusal, openAnswer, IsNoneFree}
 use Rattle.desk.specs.declared.Desk.{Desk}
@@ -144,6 +145,17 @@ pub any-night-behind : (lanes : Lanes) (calls : List Call)
 any-night-behind lanes calls =
     let hall : Hall = record { lanes = lanes; desk = freshDesk } in
     subst (λ (d : Desk). Night d (answeredAll freshDesk [] (allReach (record { lanes = lanes; desk = freshDesk }) calls))) (sym (at-desk hall calls)) (any-night (allReach hall calls))
+
+-- 02, #110, with lanes in front: "No two open tickets of different jobs may hold the same folder other than 0"
+pub folders-apart-behind : (lanes : Lanes) (calls : List Call) (a b : ℕ)
+    → ticketOn (allAfter (record { lanes = lanes; desk = freshDesk }) calls .desk) a .live ≡ true
+    → ticketOn (allAfter (record { lanes = lanes; desk = freshDesk }) calls .desk) b .live ≡ true
+    → ticketOn (allAfter (record { lanes = lanes; desk = freshDesk }) calls .desk) a .asked .job
+    ≢ ticketOn (allAfter (record { lanes = lanes; desk = freshDesk }) calls .desk) b .asked .job
+    → ticketOn (allAfter (record { lanes = lanes; desk = freshDesk }) calls .desk) a .asked .folder ≢ 0
+    → ticketOn (allAfter (record { lanes = lanes; desk = freshDesk }) calls .desk) a .asked .folder
+    ≢ ticketOn (allAfter (record { lanes = lanes; desk = freshDesk }) calls .desk) b .asked .folder
+folders-apart-behind lanes calls = any-night-behind lanes calls .apart
 
 -- ---- these are the lanes, desks and answers of the contracts
 
