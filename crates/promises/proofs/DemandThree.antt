@@ -3,34 +3,30 @@
 -- bits of the message before substitution, each byte taken highest bit first. Frame it again and offer it with 240 bytes of room. It is
 -- refused as a check fault, closes no ticket and changes no register."
 -- Assumes nothing.
-use mathlib.Core.Path.{_≡_, ap, _∙_}
+use mathlib.Core.Path.{_≡_}
 use mathlib.Core.List.{List}
 use Prim.Native.Nat.{ℕ, _≤_}
 use lib.ListN.{length}
 use Rattle.frame.specs.Frame.{framed, messageOf}
 use Rattle.remainder.specs.Remainder.{AlteredNearby}
-use Rattle.telegram.proofs.Laws.{nearby-reads}
 use Rattle.telegram.specs.Read.{readFrame, Reads}
 use Rattle.telegram.specs.declared.Fault.the-variants.{CheckFault}
 use Rattle.telegram.specs.declared.Fields.{Fields}
 use Rattle.telegram.specs.declared.Reading.{Reading}
 use Rattle.telegram.specs.declared.Reading.the-variants as reading
-use Rattle.bench.proofs.Laws.{nearby-silent}
 use Rattle.bench.specs.Take.{Takes}
 use Rattle.bench.specs.declared.Bench.{Bench}
 use Rattle.bench.specs.declared.Fault.the-variants as silence
 use Rattle.bench.specs.declared.Taking.the-variants.{Silent}
 use Rattle.bench.specs.declared.AfterTake.{AfterTake}
-use Rattle.desk.proofs.Laws.{nearby-reply}
 use Rattle.desk.specs.Reply.{Replies}
 use Rattle.desk.specs.declared.Desk.{Desk}
 use Rattle.desk.specs.declared.Fault.the-variants as refusal
 use Rattle.desk.specs.declared.Booking.the-variants as booking
 use Rattle.desk.specs.declared.AfterReply.{AfterReply}
-use Rattle.kamzhor.proofs.Laws.{frame-as-read}
-use Rattle.kamzhor.specs.Host.{frameNumber, frameGiven, GivesFrame}
+use Rattle.kamzhor.specs.Host.{frameNumber, GivesFrame}
 use Rattle.kamzhor.specs.declared.FrameAnswer.{FrameAnswer}
-use Rattle.telegram.proofs.Laws.{reads-settled}
+use Rattle.promises.proofs.Noise.{nearby-noise}
 -- ---- "The check is the polynomial remainder of that description": every byte string has one, and it is the one that is worked out
 pub use Rattle.remainder.proofs.Laws.{is-remainder, only-remainder, empty-remainder, whole, sealed-right}
 -- "the remainder of two equally long byte strings combined by exclusive or is the exclusive or of their remainders"
@@ -52,23 +48,19 @@ module _ (frame : List ℕ) (offered : ℕ) (t : Fields) (accepted : readFrame f
   -- "It is refused as a check fault", and the lent buffer stays
   pub reader-refuses : (room : List ℕ) (a : Reading) (room′ : List ℕ) → 240 ≤ length room → Reads (framed m) room a room′
       → (a ≡ reading.Refused CheckFault) × (room′ ≡ room)
-  reader-refuses = nearby-reads frame offered t accepted m altered
+  reader-refuses = nearby-noise frame offered t accepted m altered .reader
 
   -- in C too: number 7, and every other field is 0
   pub host-refuses : (room : List ℕ) (a : FrameAnswer) (room′ : List ℕ) → 240 ≤ length room → GivesFrame (framed m) room a room′
       → (a ≡ frameNumber 7 0) × (room′ ≡ room)
-  host-refuses room a room′ wide gives =
-      let outcome = reads-settled (framed m) room in
-      let seven = reader-refuses room (outcome .outcome .0) (outcome .outcome .1) wide (outcome .is-allowed) in
-      let told = frame-as-read (framed m) room (outcome .is-allowed) gives in
-      (told .0 ∙ ap frameGiven (seven .0), told .1 ∙ seven .1)
+  host-refuses = nearby-noise frame offered t accepted m altered .host
 
   -- "closes no ticket": the whole desk stays, and so does the lent buffer
   pub desk-unchanged : (desk : Desk) (room : List ℕ) (r : AfterReply) (room′ : List ℕ) → 240 ≤ length room → Replies desk (framed m) room r room′
       → (r .answer ≡ booking.Refused (refusal.Unread CheckFault)) × (r .desk ≡ desk) × (room′ ≡ room)
-  desk-unchanged = nearby-reply frame offered t accepted m altered
+  desk-unchanged = nearby-noise frame offered t accepted m altered .desk
 
   -- "and changes no register": the whole bench stays, and there is no answer, with any reply buffer
   pub bench-unchanged : (bench : Bench) (room : List ℕ) (r : AfterTake) (room′ : List ℕ) → Takes bench (framed m) room r room′
       → (r .answer ≡ Silent (silence.Unread CheckFault)) × (r .bench ≡ bench) × (room′ ≡ room)
-  bench-unchanged bench room r room′ takes = nearby-silent frame offered t accepted m altered bench room takes
+  bench-unchanged = nearby-noise frame offered t accepted m altered .bench

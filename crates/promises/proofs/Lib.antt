@@ -8,3 +8,4 @@ pub mod Order
 pub mod Capture
 pub mod Slips
 pub mod Numbers
+pub mod Noise

@@ -156,12 +156,13 @@ leaves-timesX {p} {r} a = go (ltb r (2 ^ 15)) refl
     go true e = leaves-low a (ltb-true r (2 ^ 15) e)
     go false e = leaves-high a (ltb-false r (2 ^ 15) e)
 
+pub shift-suc : (p k : ℕ) → p * 2 ^ suc k ≡ p * 2 ^ k * 2
+shift-suc p k = ap (λ (x : ℕ). p * x) (pow-suc 2 k) ∙ sym (mul-assoc p (2 ^ k) 2)
+
 pub leaves-timesXs : (n : ℕ) {p r : ℕ} → Leaves p r → Leaves (p * 2 ^ n) (timesXs n r)
 unfolding timesXs
 leaves-timesXs zero {p} {r} a = rw (mul-one p) a
-leaves-timesXs (suc n) {p} {r} a =
-    let e : p * 2 ^ suc n ≡ p * 2 * 2 ^ n = ap (λ (x : ℕ). p * x) (pow-suc 2 n) ∙ sym (mul-assoc p (2 ^ n) 2) ∙ mul-right-comm p (2 ^ n) 2 in
-    rw e (leaves-timesXs n (leaves-timesX a))
+leaves-timesXs (suc n) {p} {r} a = rw (shift-suc p n ∙ mul-right-comm p (2 ^ n) 2) (leaves-timesXs n (leaves-timesX a))
 
 -- the divisor has an odd end, so what it divides it divides without the factor x too
 unshift : {p : ℕ} → Leaves (p * 2) 0 → Leaves p 0
@@ -193,6 +194,4 @@ unshift {p} a =
 
 pub unshifts : (k : ℕ) {p : ℕ} → Leaves (p * 2 ^ k) 0 → Leaves p 0
 unshifts zero {p} a = rw (mul-one p) at a
-unshifts (suc k) {p} a =
-    let e : p * 2 ^ suc k ≡ p * 2 ^ k * 2 = ap (λ (x : ℕ). p * x) (pow-suc 2 k) ∙ sym (mul-assoc p (2 ^ k) 2) in
-    unshifts k (unshift (rw e at a))
+unshifts (suc k) {p} a = unshifts k (unshift (rw (shift-suc p k) at a))

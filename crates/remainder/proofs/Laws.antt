@@ -13,8 +13,9 @@ use lib.Pow.{pow-add, pow-mono}
 use lib.Seq.{getD-take, getD-drop}
 use Rattle.rows.proofs.Settled.{settled}
 use Rattle.rows.specs.Settled.{Settled}
-use Rattle.remainder.specs.Remainder.{_⊕_, bits, polynomial, timesDivisor, Leaves, IsRemainder, timesXs, withByte, withBytes, remainderOf, timesX, combined, Burst, AlteredNearby, Remains}
-use Rattle.remainder.proofs.Sum.{sum-zero, sum-shift}
+use Rattle.remainder.specs.Remainder.{_⊕_, bits, polynomial, timesDivisor, Leaves, IsRemainder, timesXs, withByte, withBytes, remainderOf, timesX, combined}
+use Rattle.remainder.specs.Remainder.{Burst, DifferAt, AlteredNearby, Remains}
+use Rattle.remainder.proofs.Sum.{sum-zero, sum-shift, unlike-digits}
 use Rattle.remainder.proofs.Division.{leaves-one, leaves-self, leaves-sum, leaves-timesXs, unshifts}
 use Rattle.remainder.proofs.Bytes.{Digits, polynomial-append, polynomial-lt, polynomial-none, polynomial-zeros, length-bits}
 use Rattle.remainder.proofs.Bytes.{digits-bits, number, number-cons, number-append, bits-combined, at-combined, number-combined}
@@ -79,9 +80,11 @@ remainder-linear xs ys same =
 
 -- ---- 01: "Taken over a whole right message it is 0." And only over a right one: h and l are the message's last two bytes.
 
-zeros-stay : timesXs 16 0 ≡ 0
+-- what is divided stays divided
+pub zeros-stay : (n : ℕ) → timesXs n 0 ≡ 0
 unfolding timesXs timesX
-zeros-stay = refl
+zeros-stay zero = refl
+zeros-stay (suc n) = zeros-stay n
 
 module _ (xs : List ℕ) (h l : ℕ) where
   seal : ℕ
@@ -115,7 +118,7 @@ module _ (xs : List ℕ) (h l : ℕ) where
       none-left : remainderOf xs ≡ seal → remainderOf (xs ++ h ∷ l ∷ []) ≡ 0
       none-left e =
           let nothing : remainderOf xs ⊕ seal ≡ 0 = ap (λ (x : ℕ). x ⊕ seal) e ∙ xor-self seal in
-          leaves-one (is-remainder (xs ++ h ∷ l ∷ [])) (rw zeros-stay at (leaves-timesXs 16 (rw nothing at whole-leaves)))
+          leaves-one (is-remainder (xs ++ h ∷ l ∷ [])) (rw (zeros-stay 16) at (leaves-timesXs 16 (rw nothing at whole-leaves)))
 
 -- a message followed by its remainder, high byte first
 pub sealed-right : (xs : List ℕ) → remainderOf (xs ++ remainderOf xs / 256 ∷ remainderOf xs % 256 ∷ []) ≡ 0
@@ -207,37 +210,34 @@ burst-seen es b none =
 pub altered-seen : (xs ys : List ℕ) → length xs ≡ length ys → remainderOf (combined xs ys) ≢ 0 → remainderOf xs ≡ 0 → remainderOf ys ≢ 0
 altered-seen xs ys same odd right none = odd (remainder-linear xs ys same ∙ ap₂ bitXor right none)
 
--- on bytes: where two equally long strings differ in one or more bits, all within 16 neighbouring ones, their difference is a burst
+-- on bytes: the difference of two equally long strings has a one exactly where they differ
+module _ (xs ys : List ℕ) (same : length xs ≡ length ys) where
+  pub same-bits : length (bits xs) ≡ length (bits ys)
+  same-bits = length-bits xs ∙ ap (λ (n : ℕ). 8 * n) same ∙ sym (length-bits ys)
+
+  pub bit-combined : (i : ℕ) → getD (bits (combined xs ys)) i 0 ≡ getD (bits xs) i 0 ⊕ getD (bits ys) i 0
+  bit-combined i = ap (λ (cs : List ℕ). getD cs i 0) (bits-combined xs ys same) ∙ at-combined (bits xs) (bits ys) same-bits i
+
+  pub differ-one : (i : ℕ) → DifferAt xs ys i ↔ (getD (bits (combined xs ys)) i 0 ≡ 1)
+  differ-one i = (one, differs)
+    where
+      one : DifferAt xs ys i → getD (bits (combined xs ys)) i 0 ≡ 1
+      one n = bit-combined i ∙ unlike-digits (getD (bits xs) i 0) (getD (bits ys) i 0) (digits-bits xs i) (digits-bits ys i) n
+
+      differs : getD (bits (combined xs ys)) i 0 ≡ 1 → DifferAt xs ys i
+      differs e alike =
+          let clash : _≡_ {A = ℕ} 0 1 = sym (bit-combined i ∙ ap (λ (c : ℕ). c ⊕ getD (bits ys) i 0) alike ∙ xor-self (getD (bits ys) i 0)) ∙ e in
+          omega arith
+
+-- where they differ in one or more bits, all within 16 neighbouring ones, their difference is a burst
 pub nearby-burst : {xs ys : List ℕ} → AlteredNearby xs ys → Burst (bits (combined xs ys))
 nearby-burst {xs} {ys} a =
+    let one = differ-one xs ys (a .same-length) in
     record {
-      some-one = (a .some-bit .0, one (a .some-bit .0) (a .some-bit .1));
+      some-one = (a .some-bit .0, one (a .some-bit .0) .0 (a .some-bit .1));
       from = a .from;
-      near = λ i e. a .near i (differs i e);
+      near = λ i e. a .near i (one i .1 e);
     }
-  where
-    lengths : length (bits xs) ≡ length (bits ys)
-    lengths = length-bits xs ∙ ap (λ (n : ℕ). 8 * n) (a .same-length) ∙ sym (length-bits ys)
-
-    there : (i : ℕ) → getD (bits (combined xs ys)) i 0 ≡ getD (bits xs) i 0 ⊕ getD (bits ys) i 0
-    there i = ap (λ (cs : List ℕ). getD cs i 0) (bits-combined xs ys (a .same-length)) ∙ at-combined (bits xs) (bits ys) lengths i
-
-    digit : (c d : ℕ) → c < 2 → d < 2 → c ≢ d → c ⊕ d ≡ 1
-    digit zero zero hc hd n = absurd (n refl)
-    digit zero (suc zero) hc hd n = refl
-    digit zero (suc (suc d)) hc hd n = absurd (omega arith)
-    digit (suc zero) zero hc hd n = refl
-    digit (suc zero) (suc zero) hc hd n = absurd (n refl)
-    digit (suc zero) (suc (suc d)) hc hd n = absurd (omega arith)
-    digit (suc (suc c)) d hc hd n = absurd (omega arith)
-
-    one : (i : ℕ) → getD (bits xs) i 0 ≢ getD (bits ys) i 0 → getD (bits (combined xs ys)) i 0 ≡ 1
-    one i n = there i ∙ digit (getD (bits xs) i 0) (getD (bits ys) i 0) (digits-bits xs i) (digits-bits ys i) n
-
-    differs : (i : ℕ) → getD (bits (combined xs ys)) i 0 ≡ 1 → getD (bits xs) i 0 ≢ getD (bits ys) i 0
-    differs i e same =
-        let clash : _≡_ {A = ℕ} 0 1 = sym (there i ∙ ap (λ (c : ℕ). c ⊕ getD (bits ys) i 0) same ∙ xor-self (getD (bits ys) i 0)) ∙ e in
-        omega arith
 
 -- so a right string altered so is not right any more
 pub nearby-seen : {xs ys : List ℕ} → AlteredNearby xs ys → remainderOf xs ≡ 0 → remainderOf ys ≢ 0

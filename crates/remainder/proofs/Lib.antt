@@ -4,3 +4,6 @@ pub mod Bytes
 pub mod Laws
 pub mod Nearby
 pub mod Halves
+pub mod Parity
+pub mod Order
+pub mod Noise

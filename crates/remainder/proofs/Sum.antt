@@ -1,11 +1,12 @@
 -- The sum of polynomials: what `lib.Bits` leaves to be said of the exclusive or.
 -- Assumes nothing.
 use mathlib.Core.Path.{_≡_, refl, sym, ap, ap₂, _∙_}
+use mathlib.Core.Logic.{_≢_}
 use Prim.Native.Nat.{ℕ, zero, suc, _+_, _*_, _/_, _%_, _^_, _<_}
 use native.Mathlib.Nat.{div-add-mod', add-zero}
 use native.Mathlib.Omega.{arith}
 use lib.Arith.{bin-ind}
-use lib.Bits.{bitXor, xor-shr, xor-mod, xor-block, xor-comm, xor-self, xor-zero-r}
+use lib.Bits.{bitXor, xor-shr, xor-mod, xor-block, xor-comm, xor-self, xor-zero-r, xor-lt}
 use lib.Pow.{pow-pos}
 use Rattle.remainder.specs.Remainder.{_⊕_}
 
@@ -52,3 +53,10 @@ sum-shift k a b =
     sym (add-zero ((a ⊕ b) * 2 ^ k))
     ∙ sym (xor-block k a b 0 0 (pow-pos k) (pow-pos k))
     ∙ ap₂ bitXor (add-zero (a * 2 ^ k)) (add-zero (b * 2 ^ k))
+
+-- two digits that differ
+pub unlike-digits : (c d : ℕ) → c < 2 → d < 2 → c ≢ d → c ⊕ d ≡ 1
+unlike-digits c d hc hd n =
+    let under : c ⊕ d < 2 = xor-lt 1 c d hc hd in
+    let some : c ⊕ d ≢ 0 = λ e. n (sum-zero c d e) in
+    omega arith
