@@ -1,5 +1,6 @@
 //! How often each call was answered in each way, and whether every way occurred.
 
+use crate::altered::Altered;
 use crate::calls::lines;
 use crate::dues::Dues;
 use crate::filters::Filters;
@@ -56,7 +57,7 @@ const ORDERS: [(&str, &[No]); 37] = [
 /// The lines that must also have been said of frames which lie in more than one chunk.
 const OVER_BORDERS: [&str; 4] = ["ok", "refused 5", "dropped", "open"];
 /// What is told of each subject, from a script's calls and answers.
-const SUBJECTS: [fn(&[&[u8]], &[&[u8]]) -> (String, Vec<String>); 8] = [
+const SUBJECTS: [fn(&[&[u8]], &[&[u8]]) -> (String, Vec<String>); 9] = [
     Rests::report,
     Filters::report,
     Places::report,
@@ -65,6 +66,7 @@ const SUBJECTS: [fn(&[&[u8]], &[&[u8]]) -> (String, Vec<String>); 8] = [
     Looks::report,
     Turns::report,
     Folders::report,
+    Altered::report,
 ];
 /// Stands for a line that begins with the name of no call.
 const NO_CALL: &str = "(no call)";

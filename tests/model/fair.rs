@@ -110,7 +110,7 @@ fn flood(random: &mut Random) -> Vec<String> {
 }
 
 /// 16 jobs whose lanes are full, in the order of their lanes, and as many grants, while a 17th job holds a folder for
-/// long; so many of 16 requests are on that folder, and taken out.
+/// long; so many of every 16 requests are on that folder, and are taken out.
 fn all_full(on_folder: u32) -> Vec<String> {
     let most = (LANES * MOST_WAITING) as u32;
     let held = format!("desk.open 17 15 4 102 - 60000 {HELD} 0 {}", hex(&[0; 20]));
@@ -139,8 +139,11 @@ fn told(seed: u64, runs: u64) -> Result<String, String> {
     for on_folder in [0, 8, 15, 16] {
         let full = Run::of(&all_full(on_folder)).map_err(|fault| format!("full lanes: {fault}"))?;
         let of_last = grants_of(&full, 16);
-        if of_last != [16, 32, 48, 64] || full.taken_out != 4 * on_folder as usize {
+        if of_last != [16, 32, 48, 64] {
             return Err(format!("16 p is not reached: lane 16 is served by the grants {of_last:?}"));
+        }
+        if full.taken_out != MOST_WAITING * on_folder as usize {
+            return Err(format!("full lanes: {} requests taken out, {on_folder} of 16 on the folder", full.taken_out));
         }
     }
     Ok(format!(

@@ -1,5 +1,6 @@
 //! Messages made by the seed, and every sort of damage to them, for scripts and captures.
 
+use crate::flips::invert;
 use crate::random::Random;
 use crate::telegram::{self, with_remainder, Message, No, CODES, END, MOST_DATA, START, SUBSTITUTION};
 
@@ -109,7 +110,7 @@ pub fn flip_unseen(random: &mut Random, message: &mut [u8]) {
 fn flip(random: &mut Random, message: &mut [u8], pattern: usize, width: usize) {
     let first = random.between(0, message.len() * 8 - width);
     for bit in (0..width).filter(|bit| (pattern >> (width - 1 - bit)) % 2 == 1) {
-        message[(first + bit) / 8] ^= 128 >> ((first + bit) % 8);
+        invert(message, first + bit);
     }
 }
 

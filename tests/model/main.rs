@@ -1,6 +1,7 @@
 //! The model: a plain reading of the lab's papers, against which the proved library is tested.
 
 mod accident;
+mod altered;
 mod bench;
 mod calls;
 mod capture;
@@ -14,11 +15,13 @@ mod expiries;
 mod fair;
 mod faults;
 mod filters;
+mod flips;
 mod folders;
 mod holders;
 mod lanes;
 mod listing;
 mod looks;
+mod noise;
 mod places;
 mod queue;
 mod random;
@@ -39,7 +42,7 @@ use std::io::{self, Read, Write};
 use std::process::ExitCode;
 
 const USAGE: &str = "usage: model answer | script SEED CALLS | count SCRIPT ANSWERS | cuts | list | capture SEED | \
-chunks SEED CAPTURES | expiries SEED DESKS | lanes SEED RUNS | folders SEED CALLS | vectors";
+chunks SEED CAPTURES | expiries SEED DESKS | lanes SEED RUNS | folders SEED CALLS | noise SEED ROUNDS | vectors";
 
 /// 0 when all is well, 1 when a check fails, 2 when the command can't be carried out.
 fn main() -> ExitCode {
@@ -82,6 +85,10 @@ fn run(words: &[&str]) -> io::Result<bool> {
             let (report, none_shared) = accident::report(number(seed)?, number(calls)? as usize);
             put(report, none_shared)
         }
+        ["noise", seed, rounds] => {
+            let (report, all_refused) = noise::report(number(seed)?, number(rounds)?);
+            put(report, all_refused)
+        }
         ["vectors"] => {
             let (report, all_hold) = vectors::report();
             put(report, all_hold)
@@ -103,7 +110,7 @@ fn put(bytes: impl AsRef<[u8]>, verdict: bool) -> io::Result<bool> {
     Ok(verdict)
 }
 
-/// A seed, or a number of calls, captures, desks or runs.
+/// A seed, or a number of calls, captures, desks, runs or rounds.
 fn number(word: &str) -> io::Result<u64> {
     word.parse().map_err(|_| io::Error::new(io::ErrorKind::Other, USAGE))
 }

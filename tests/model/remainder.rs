@@ -11,7 +11,7 @@ const POLYNOMIAL: [bool; 17] = {
 };
 
 /// The bits of all bytes in the order of the papers: byte after byte, each highest bit first.
-fn bits_of(bytes: &[u8]) -> Vec<bool> {
+pub fn bits_of(bytes: &[u8]) -> Vec<bool> {
     bytes.iter().flat_map(|byte| (0..8).rev().map(move |power| (byte >> power) % 2 == 1)).collect()
 }
 

@@ -6,6 +6,7 @@ mod expall_walk;
 mod folder_walk;
 mod lane_walk;
 mod look_walk;
+mod noise_walk;
 mod numbers;
 mod receiver_walk;
 mod rest_walk;
@@ -140,6 +141,9 @@ const FOLDER_ROUND: [Section; 7] = [
     folder_walk::mixed,
 ];
 
+/// The sections on noise that is no burst, after those on folders, with a generator of their own as well.
+const NOISE_ROUND: [Section; 3] = [noise_walk::reads, noise_walk::replies, noise_walk::telegrams];
+
 /// A rehearsal with a desk of any sort, to try the call on that expires everything due.
 pub fn crowded(seed: u64) -> Rehearsal {
     let mut script = Script::new(seed);
@@ -173,6 +177,7 @@ pub fn write(seed: u64, calls: usize) -> Vec<u8> {
     let mut look_random = Random::new(seed.rotate_left(8) ^ 0x4C4F_4F4B_0000);
     let mut lane_random = Random::new(seed.rotate_left(24) ^ 0x4C41_4E45_5300);
     let mut folder_random = Random::new(seed.rotate_left(40) ^ 0x464F_4C44_4552);
+    let mut noise_random = Random::new(seed.rotate_left(56) ^ 0x4E4F_4953_4500);
     while script.lines.len() < calls {
         script.round(ROUND);
         script.round_with(&mut receiver_random, RECEIVER_ROUND);
@@ -183,6 +188,7 @@ pub fn write(seed: u64, calls: usize) -> Vec<u8> {
         script.round_with(&mut look_random, LOOK_ROUND);
         script.round_with(&mut lane_random, LANE_ROUND);
         script.round_with(&mut folder_random, FOLDER_ROUND);
+        script.round_with(&mut noise_random, NOISE_ROUND);
     }
     script.lines.truncate(calls);
     script.lines.iter().flat_map(|line| [line.as_slice(), b"\n"].concat()).collect()

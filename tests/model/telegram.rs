@@ -97,8 +97,8 @@ pub fn write(message: &Message, room: usize) -> Result<Vec<u8>, No> {
     Ok(telegram)
 }
 
-/// Reads a frame with this room for its data. A message exists only where rows 1 to 3 do not apply.
-pub fn read(frame: &[u8], room: usize) -> Result<Message, Refusal> {
+/// The message of a frame as it was before substitution. There is one only where rows 1 to 3 do not apply.
+pub fn unframed(frame: &[u8]) -> Result<Vec<u8>, Refusal> {
     let wrong: Vec<usize> = (1..=between(frame).len()).filter(|place| is_wrong_substitution(frame, *place)).collect();
     let refused = lowest(&[
         (1, not_from_start_to_end(frame)),
@@ -106,7 +106,12 @@ pub fn read(frame: &[u8], room: usize) -> Result<Message, Refusal> {
         (3, !wrong.is_empty()),
     ]);
     refused.map_err(|no| Refusal { place: wrong.iter().copied().min().filter(|_| no == 3), ..no.into() })?;
-    let message = restored(between(frame));
+    Ok(restored(between(frame)))
+}
+
+/// Reads a frame with this room for its data.
+pub fn read(frame: &[u8], room: usize) -> Result<Message, Refusal> {
+    let message = unframed(frame)?;
     lowest(&[
         (4, message.len() < 6),
         (5, message.len() > 6 + MOST_DATA),

@@ -29,7 +29,7 @@ pub fn no_bench_yet(script: &mut Script) {
 }
 
 /// Makes a fresh bench on an address near a limit or a special byte, or on any.
-fn new_bench(script: &mut Script) {
+pub fn new_bench(script: &mut Script) {
     let random = &mut script.random;
     let own = if random.one_in(2) { random.between(1, 160) as u8 } else { random.pick(&[1, 10, 13, 15, 94, 159, 160]) };
     script.call(format!("bench.new {own}"));
@@ -43,7 +43,7 @@ fn refused_bench(script: &mut Script) {
 }
 
 /// The bench as the script has it now.
-fn bench(script: &Script) -> Bench {
+pub fn bench(script: &Script) -> Bench {
     script.rehearsal.bench.clone().expect("a walk makes its bench first")
 }
 
@@ -54,7 +54,7 @@ fn held(random: &mut Random, bench: &Bench) -> Option<u8> {
 }
 
 /// A register the bench does not hold.
-fn unheld(random: &mut Random, bench: &Bench) -> u8 {
+pub fn unheld(random: &mut Random, bench: &Bench) -> u8 {
     let numbers: Vec<u8> = (0..=255).filter(|number| !bench.registers.contains_key(number)).collect();
     random.pick(&numbers)
 }
@@ -81,7 +81,7 @@ fn add_free(script: &mut Script) {
 }
 
 /// Sets a register to a number of its kind or, now and then, past its ends.
-fn set(script: &mut Script, register: u8, kind: u8) {
+pub fn set(script: &mut Script, register: u8, kind: u8) {
     let value =
         if script.random.one_in(4) { number(&mut script.random, kind) } else { fitting(&mut script.random, kind) };
     script.call(format!("bench.set {register} {value}"));
@@ -208,7 +208,7 @@ fn reply_length(bench: &Bench, frame: &[u8]) -> usize {
 }
 
 /// Adds a telegram for the bench with a buffer of that length.
-fn tele(script: &mut Script, frame: &[u8], room: usize) {
+pub fn tele(script: &mut Script, frame: &[u8], room: usize) {
     script.call(format!("bench.tele {} {}", hex(frame), hex(&buffer(room))));
 }
 

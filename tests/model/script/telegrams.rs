@@ -52,7 +52,7 @@ pub fn reads(script: &mut Script) {
 }
 
 /// Adds a read of this frame into a buffer of that length.
-fn read(script: &mut Script, frame: &[u8], room: usize) {
+pub fn read(script: &mut Script, frame: &[u8], room: usize) {
     script.call(format!("read {} {}", hex(frame), hex(&buffer(room))));
 }
 
