@@ -17,6 +17,8 @@ use Rattle.rows.specs.Settled.{Settled}
 use Rattle.first.proofs.Laws.{first-at}
 use Rattle.frame.specs.Frame.{framed, messageOf}
 use Rattle.lent.specs.Lent.{over}
+use Rattle.marks.proofs.Laws.{none-marked}
+use Rattle.marks.specs.Marks.{noMarks}
 use Rattle.remainder.proofs.Laws.{burst-seen, nearby-burst}
 use Rattle.remainder.specs.Remainder.{remainderOf, combined, AlteredNearby}
 use Rattle.request.proofs.Laws.{allowed-writable}
@@ -41,9 +43,10 @@ use Rattle.ticket.specs.Ticket.{Open, noTicket, newTicket, withdrawnAt}
 use Rattle.ticket.specs.declared.Ticket.{Ticket}
 use Rattle.desk.proofs.Answers.{opened-told, open-refused, book-refused, closed-told, close-refused, booked-told}
 use Rattle.desk.proofs.Calls.{live-host, only-room}
+use Rattle.desk.proofs.Standing.{length-standing, standing-with, standing-put, standing-alone}
 use Rattle.desk.proofs.Ranking.{search-ended, search-passed, due-ended, decides-folder-held}
 use Rattle.desk.specs.Close.{isTheirs, cancelRefusal, Cancels, Expires, duePlace, expireRefusal, withdrawnOn}
-use Rattle.desk.specs.Desk.{freshDesk, ticketAt, ticketOn, OpenOn, putAt, faultNumber, Fresh, Looks, Numbers}
+use Rattle.desk.specs.Desk.{freshDesk, standing, placeIn, ticketAt, ticketOn, OpenOn, putAt, faultNumber, Fresh, Stands, Looks, Numbers}
 use Rattle.desk.specs.Folder.{IsFolderHeld, isFolderHeld}
 use Rattle.desk.specs.Open.{placeFrom, distanceOf, givenPlace, requestAt, placeTests, openRefusal, withTicket, Opens}
 use Rattle.desk.specs.Outcome.{Given, ClosedAlone, Books, Expired}
@@ -72,14 +75,28 @@ use Rattle.desk.specs.declared.Closing.the-variants.{Refused as NotClose
 pub on-host : (desk : Desk) (place : ℕ) → ticketOn desk (161 + place) ≡ ticketAt desk place
 on-host desk place = let p : 161 + place - 161 ≡ place = omega arith in rw (le-leb 161 (161 + place) (omega arith), p)
 
--- every other address is as before, whatever the turn is then
-pub stored-other : (desk : Desk) (turn place : ℕ) (ticket : Ticket) (other : ℕ) → other ≢ 161 + place
-    → ticketOn (record { turn = turn; tickets = set (desk .tickets) place ticket }) other ≡ ticketOn desk other
-stored-other desk turn place ticket other n = go (leb 161 other) refl
+-- it stands there, at one of 95 places
+pub put-here : (desk : Desk) (place : ℕ) (ticket : Ticket) → (ticket .live ≡ true → place < 128) → place < length (desk .tickets)
+    → ticketAt (putAt desk place ticket) place ≡ ticket
+put-here desk place ticket near h =
+    ap (λ (ts : List Ticket). placeIn ts place) (standing-put (desk .marks) (desk .tickets) place ticket near)
+    ∙ getD-set-same (standing desk) place ticket noTicket (rw (length-standing 0 (desk .marks) (desk .tickets)) h)
+
+-- and at every other place what stood there
+pub put-other : (desk : Desk) (place : ℕ) (ticket : Ticket) (other : ℕ) → other ≢ place
+    → ticketAt (putAt desk place ticket) other ≡ ticketAt desk other
+put-other desk place ticket other n =
+    ap (λ (ts : List Ticket). placeIn ts other) (standing-with (desk .marks) (desk .tickets) place ticket)
+    ∙ getD-set-other (standing desk) place other _ noTicket n
+
+-- every other address is as before
+pub stored-other : (desk : Desk) (place : ℕ) (ticket : Ticket) (other : ℕ) → other ≢ 161 + place
+    → ticketOn (putAt desk place ticket) other ≡ ticketOn desk other
+stored-other desk place ticket other n = go (leb 161 other) refl
   where
     go : (t : Bool) → leb 161 other ≡ t
-        → cond t (getD (set (desk .tickets) place ticket) (other - 161) noTicket) noTicket ≡ cond t (ticketAt desk (other - 161)) noTicket
-    go true e = getD-set-other (desk .tickets) place (other - 161) ticket noTicket (λ p. n (omega (arith, leb-true 161 other e)))
+        → cond t (ticketAt (putAt desk place ticket) (other - 161)) noTicket ≡ cond t (ticketAt desk (other - 161)) noTicket
+    go true e = put-other desk place ticket (other - 161) (λ p. n (omega (arith, leb-true 161 other e)))
     go false e = refl
 
 -- ---- 01: "The address given is the first one without a ticket, from the turn upwards and after 255 from 161 on. The turn then moves to
@@ -100,8 +117,8 @@ given-at desk asked clock places near =
       passed = λ k h. rw (on-host desk (placeFrom (desk .turn) k)) (search-passed desk clock k h);
       stands =
           on-host (withTicket desk place (newTicket asked clock)) place
-          ∙ getD-set-same (desk .tickets) place (newTicket asked clock) noTicket (omega arith);
-      others = stored-other desk ((place + 1) % 95) place (newTicket asked clock);
+          ∙ put-here desk place (newTicket asked clock) (λ live. omega arith) (omega arith);
+      others = stored-other desk place (newTicket asked clock);
       turn-after = let p : 161 + place - 161 ≡ place = omega arith in rw p;
     }
 
@@ -166,10 +183,17 @@ module _ (desk : Desk) (asked : Request) (bytes : List ℕ) (clock : ℕ) (room 
       let o = open-refused (openRefusal desk asked bytes clock (length room)) _ _ f (sym e ∙ opens .0) in
       (opens .1 ∙ rw o, opens .2 ∙ rw o)
 
-pub empty-place : (n place : ℕ) → getD (replicate n noTicket) place noTicket ≡ noTicket
-empty-place zero place = refl
-empty-place (suc n) zero = refl
-empty-place (suc n) (suc place) = empty-place n place
+-- nothing stands at any place of a fresh desk
+pub empty-place : (place : ℕ) → ticketAt freshDesk place ≡ noTicket
+empty-place place =
+    ap (λ (ts : List Ticket). placeIn ts place)
+    (standing-alone noMarks (replicate 95 noTicket) (λ i h. none-marked i ∙ sym (ap (λ (t : Ticket). t .live) (empty 95 i))))
+    ∙ empty 95 place
+  where
+    empty : (n i : ℕ) → getD (replicate n noTicket) i noTicket ≡ noTicket
+    empty zero i = refl
+    empty (suc n) zero = refl
+    empty (suc n) (suc i) = empty n i
 
 -- 01: "A fresh desk has no tickets and its next turn at 161": whatever may be asked is opened there, with room for the longest telegram
 pub fresh-opens : (asked : Request) (bytes : List ℕ) (clock : ℕ) (room : List ℕ) (r : AfterOpen) (room′ : List ℕ)
@@ -178,13 +202,13 @@ pub fresh-opens : (asked : Request) (bytes : List ℕ) (clock : ℕ) (room : Lis
 unfolding openRefusal givenPlace distanceOf IsFolderHeld
 fresh-opens asked bytes clock room r room′ opens allowed wide =
     let near : distanceOf freshDesk clock ≡ 0 =
-    first-at (λ k. isFree clock (ticketAt freshDesk (placeFrom 0 k))) 95 0 (omega arith) (λ i l. absurd (omega arith)) refl in
+    first-at (λ k. isFree clock (ticketAt freshDesk (placeFrom 0 k))) 95 0 (omega arith) (λ i l. absurd (omega arith)) (ap (isFree clock) (empty-place 0)) in
     let can = allowed-writable asked bytes allowed in
     let sized = length-messageFor (asked .unit) 161 (asked .sort) (asked .register) bytes in
     let long : length (requestAt 0 asked bytes) ≤ 494 =
     telegram-long (messageFor (asked .unit) 161 (asked .sort) (asked .register) bytes) (omega (arith, sized, can .0)) in
     let nobody : isFolderHeld freshDesk asked ≡ false =
-    told-false (decides-folder-held freshDesk asked) (λ held. true≢false (sym (held .1 .2 .0) ∙ ap (λ (t : Ticket). t .live) (empty-place 95 (held .1 .0)))) in
+    told-false (decides-folder-held freshDesk asked) (λ held. true≢false (sym (held .1 .2 .0) ∙ ap (λ (t : Ticket). t .live) (empty-place (held .1 .0)))) in
     opens .0 ∙ rw (near, allowed, nobody) (simp (le-ltb (length room) (length (requestAt 0 asked bytes)) (omega arith)))
 
 -- ---- 01: "A booked reply closes the ticket [..] and frees the address", "Cancel closes the ticket that is open on the address", "Expire
@@ -199,25 +223,26 @@ live-within (t ∷ tickets) (suc i) e = let h : i < length tickets = live-within
 pub open-within : (desk : Desk) (address : ℕ) → OpenOn desk address → (161 ≤ address) × (address - 161 < length (desk .tickets))
 open-within desk address live =
     let host = live-host desk address live in
-    (host, live-within (desk .tickets) (address - 161) (rw (le-leb 161 address host) at live))
+    (host, rw (length-standing 0 (desk .marks) (desk .tickets)) at (live-within (standing desk) (address - 161) (rw (le-leb 161 address host) at live)))
 
-closes-alone : (desk : Desk) (address : ℕ) (left : Ticket) → OpenOn desk address → ClosedAlone desk address left (putAt desk (address - 161) left)
-closes-alone desk address left live =
+closes-alone : (desk : Desk) (address : ℕ) (left : Ticket) → left .live ≡ false → OpenOn desk address
+    → ClosedAlone desk address left (putAt desk (address - 161) left)
+closes-alone desk address left shut live =
     let within = open-within desk address live in
     record {
       was-open = live;
-      closed = rw (le-leb 161 address (within .0)) (getD-set-same (desk .tickets) (address - 161) left noTicket (within .1));
-      others = λ other n. stored-other desk (desk .turn) (address - 161) left other (λ e. n (omega (arith, within .0)));
+      closed = rw (le-leb 161 address (within .0)) (put-here desk (address - 161) left (λ live. absurd (true≢false (sym live ∙ shut))) (within .1));
+      others = λ other n. stored-other desk (address - 161) left other (λ e. n (omega (arith, within .0)));
       turn-kept = refl;
     }
 
 -- 02, #102: "Booked replies still free the address at once."
 pub answers-alone : (desk : Desk) (address : ℕ) → OpenOn desk address → ClosedAlone desk address noTicket (answeredOn desk address)
-answers-alone desk address = closes-alone desk address noTicket
+answers-alone desk address = closes-alone desk address noTicket refl
 
 -- 02, #102: "an address closed by cancel or expiry rests", from the clock of that call
 pub withdraws-alone : (desk : Desk) (address clock : ℕ) → OpenOn desk address → ClosedAlone desk address (withdrawnAt clock) (withdrawnOn desk address clock)
-withdraws-alone desk address clock = closes-alone desk address (withdrawnAt clock)
+withdraws-alone desk address clock = closes-alone desk address (withdrawnAt clock) refl
 
 -- ---- 01: "A reply is first read as a telegram [..]. A read is answered by type 8, 0, 1 or 2, a write of any sort by 3, 0, 1 or 2. A
 -- datagram's register must equal the ticket's. [..] A booked reply closes the ticket, answers its job, address, type and data"
@@ -438,6 +463,9 @@ fresh-settled = settled _
 
 pub numbers-settled : (f : Fault) → Settled (Numbers f)
 numbers-settled f = settled _
+
+pub stands-settled : (desk : Desk) (address : ℕ) → Settled (Stands desk address)
+stands-settled desk address = settled _
 
 pub looks-settled : (desk : Desk) (address : ℕ) → Settled (Looks desk address)
 looks-settled desk address = settled _

@@ -8,7 +8,7 @@ use Prim.Native.Nat.{ℕ, _+_, _-_, _<_}
 use lib.Dec.{eqb, leb}
 use Rattle.rows.specs.Rows.{Row, row, test, firstOf, Test}
 use Rattle.first.specs.First.{firstPlace}
-use Rattle.desk.specs.Desk.{ticketAt, ticketOn, OpenOn, putAt, faultNumber}
+use Rattle.desk.specs.Desk.{standing, placeIn, ticketAt, ticketOn, OpenOn, putAt, faultNumber}
 use Rattle.ticket.specs.Due.{IsDue, isDue}
 use Rattle.ticket.specs.Ticket.{withdrawnAt}
 use Rattle.ticket.specs.declared.Ticket.{Ticket}
@@ -47,8 +47,11 @@ unfoldable pub expireRows : Desk → ℕ → List (Row Fault)
 expireRows desk clock = row (IsNothingDue desk clock) NothingDue ∷ []
 
 -- the lowest place with a due ticket; 95 where there is none
+abbrev pub dueIn : List Ticket → ℕ → ℕ
+dueIn tickets clock = firstPlace (λ place. isDue clock (placeIn tickets place)) 95
+
 unfoldable pub duePlace : Desk → ℕ → ℕ
-duePlace desk clock = firstPlace (λ place. isDue clock (ticketAt desk place)) 95
+duePlace desk clock = dueIn (standing desk) clock
 
 abbrev pub expireTests : ℕ → List (Test Fault)
 expireTests place = test (leb 95 place) NothingDue ∷ []

@@ -1,12 +1,13 @@
 -- Opening a ticket: rows 10 to 14, 75, 15 and 16, the address that is given, the next turn, and the request telegram.
 -- Assumes nothing.
 use mathlib.Core.Path.{_≡_}
+use mathlib.Core.Bool.{Bool, true, false}
 use mathlib.Core.List.{List, [], _∷_, _++_}
 use mathlib.Core.Logic.{_⊎_}
 use mathlib.Core.Option.{Option, some, none}
-use Prim.Native.Nat.{ℕ, _+_, _%_, _<_}
+use Prim.Native.Nat.{ℕ, _+_, _%_, _≤_, _<_}
 use lib.Dec.{leb, ltb}
-use lib.ListN.{length, set}
+use lib.ListN.{length}
 use Rattle.lent.specs.Lent.{over}
 use Rattle.rows.specs.Rows.{Row, row, Test, test, firstOf, orLater, passedUp, raised}
 use Rattle.request.specs.Request.{askRows, askRefusal}
@@ -16,7 +17,7 @@ use Rattle.telegram.specs.Write.{telegramFor}
 use Rattle.ticket.specs.Rest.{Rests, isFree}
 use Rattle.ticket.specs.Ticket.{Open, newTicket}
 use Rattle.ticket.specs.declared.Ticket.{Ticket}
-use Rattle.desk.specs.Desk.{ticketAt, faultNumber}
+use Rattle.desk.specs.Desk.{standing, placeIn, ticketAt, putAt, faultNumber}
 use Rattle.desk.specs.Folder.{IsFolderHeld, isFolderHeld}
 use Rattle.desk.specs.declared.Desk.{Desk}
 use Rattle.desk.specs.declared.Fault.{Fault}
@@ -33,8 +34,11 @@ abbrev pub placeFrom : ℕ → ℕ → ℕ
 placeFrom turn distance = (turn + distance) % 95
 
 -- how far from the turn the first place is that is free at a clock; 95 where there is none
+abbrev pub distanceIn : List Ticket → ℕ → ℕ → ℕ
+distanceIn tickets turn clock = firstPlace (λ k. isFree clock (placeIn tickets (placeFrom turn k))) 95
+
 unfoldable pub distanceOf : Desk → ℕ → ℕ
-distanceOf desk clock = firstPlace (λ k. isFree clock (ticketAt desk (placeFrom (desk .turn) k))) 95
+distanceOf desk clock = distanceIn (standing desk) (desk .turn) clock
 
 unfoldable pub givenPlace : Desk → ℕ → ℕ
 givenPlace desk clock = placeFrom (desk .turn) (distanceOf desk clock)
@@ -60,10 +64,14 @@ abbrev pub placeTests : ℕ → List ℕ → ℕ → List (Test Fault)
 placeTests distance telegram room = test (leb 95 distance) NoneFree ∷ test (ltb room (length telegram)) NoRoom ∷ []
 
 -- what refuses an opening, in the order 10 to 14, 75, 15, 16: "75 folder held by another job, after 14 and before 15"
+abbrev pub refusalBy : Bool → ℕ → ℕ → Request → List ℕ → ℕ → Option Fault
+refusalBy held distance place asked bytes room =
+    orLater (raised Denied (askRefusal asked bytes))
+    (firstOf (test held FolderHeld ∷ placeTests distance (requestAt place asked bytes) room))
+
 unfoldable pub openRefusal : Desk → Request → List ℕ → ℕ → ℕ → Option Fault
 openRefusal desk asked bytes clock room =
-    orLater (raised Denied (askRefusal asked bytes))
-    (firstOf (test (isFolderHeld desk asked) FolderHeld ∷ placeTests (distanceOf desk clock) (requestAt (givenPlace desk clock) asked bytes) room))
+    refusalBy (isFolderHeld desk asked) (distanceOf desk clock) (givenPlace desk clock) asked bytes room
 
 unfoldable pub openRows : Desk → Request → List ℕ → ℕ → ℕ → List (Row Fault)
 openRows desk asked bytes clock room =
@@ -83,7 +91,8 @@ openTold (Opened address n) = none
 
 -- the ticket stands at the place that was given, and "the turn then moves to the address after it, again with 161 after 255"
 abbrev pub withTicket : Desk → ℕ → Ticket → Desk
-withTicket desk place ticket = record { turn = (place + 1) % 95; tickets = set (desk .tickets) place ticket }
+withTicket desk place ticket =
+    record { turn = (place + 1) % 95; tickets = putAt desk place ticket .tickets; marks = putAt desk place ticket .marks }
 
 abbrev pub openDesk : Option Fault → Desk → ℕ → Ticket → Desk
 openDesk (some f) desk place ticket = desk
@@ -124,6 +133,13 @@ OpensAt refusal desk place distance asked bytes clock room r room′ =
 abbrev pub Opens : Desk → Request → List ℕ → ℕ → List ℕ → AfterOpen → List ℕ → Type 0
 Opens desk asked bytes clock room r room′ =
     OpensAt (openRefusal desk asked bytes clock (length room)) desk (givenPlace desk clock) (distanceOf desk clock) asked bytes clock room r room′
+
+-- `passed_by`: so many places from one on are not free at a clock, none where it is
+abbrev pub PassesBy : Desk → ℕ → ℕ → ℕ → Type 0
+PassesBy desk place clock r =
+    (place + r ≤ 95)
+    × (r ≡ 0 → isFree clock (ticketAt desk place) ≡ true)
+    × ((k : ℕ) → k < r → isFree clock (ticketAt desk (place + k)) ≡ false)
 
 -- `open_at`: rows 15 and 16 and the opening, at any distance from the turn
 abbrev pub PlacesAt : Desk → ℕ → Request → List ℕ → ℕ → List ℕ → AfterOpen → List ℕ → Type 0

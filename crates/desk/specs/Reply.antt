@@ -33,8 +33,11 @@ replyRows desk frame room = passedUp Unread (readRows frame room) ++ bookRows de
 unfoldable pub bookRefusal : Desk → Fields → Option Fault
 bookRefusal desk t = raised Misfit (fitRefusal (ticketOn desk (t .destination)) t)
 
+abbrev pub unreadOr : List ℕ → ℕ → Option Fault → Option Fault
+unreadOr frame room booking = orLater (raised Unread (readRefusal frame room)) booking
+
 unfoldable pub replyRefusal : Desk → List ℕ → ℕ → Option Fault
-replyRefusal desk frame room = orLater (raised Unread (readRefusal frame room)) (bookRefusal desk (fieldsIn frame))
+replyRefusal desk frame room = unreadOr frame room (bookRefusal desk (fieldsIn frame))
 
 -- ---- "A booked reply closes the ticket, answers its job, address, type and data, and frees the address." 02, #110: "Replies, cancels and
 -- expiries answer the folder as well".

@@ -1,11 +1,12 @@
 // The ticket desk: each request goes out under a host address of its own, and each reply is booked
 // on the one ticket that is open on its address, or refused. specs/ says what each call answers.
+use marks::Marks;
 pub use request::Request;
 use ticket::NO_TICKET;
 pub use ticket::Ticket;
-ghost use Rattle.desk.specs.Desk.{Fresh, Looks, Numbers, Places, ticketOn, putAt};
+ghost use Rattle.desk.specs.Desk.{Fresh, Looks, Numbers, Places, Stands, ticketAt, putAt};
 ghost use Rattle.desk.specs.Folder.{holderPlace, isFolderHeld};
-ghost use Rattle.desk.specs.Open.{Opens, PlacesAt, distanceOf, withTicket};
+ghost use Rattle.desk.specs.Open.{Opens, PassesBy, PlacesAt, distanceOf, withTicket};
 ghost use Rattle.desk.specs.Reply.{Replies, answeredOn};
 ghost use Rattle.desk.specs.Close.{Cancels, Expires, Withdraws, duePlace, isTheirs};
 ghost use Rattle.ticket.specs.Ticket.{withdrawnAt};
@@ -15,10 +16,12 @@ ghost use Prim.Native.Nat.{_≤_, _<_};
 ghost use lib.ListN.{length};
 
 // A ticket for each host address, 161 to 255, at the place that is the address less 161. The turn
-// is such a place too.
+// is such a place too. A place is marked while it holds a ticket: the mark decides, and in each desk
+// that calls made the ticket's own `live` says the same.
 pub struct Desk {
     pub turn: u8,
     pub tickets: [Ticket; 95],
+    pub marks: Marks,
 }
 
 // Why the desk refused.
@@ -88,9 +91,11 @@ pub struct AfterClose {
 pub fn fresh() -> Desk
     ensures { λ r. ⌜ Fresh r ⌝ }
 {
+    let marks = marks::none();
     Desk {
         turn: 0,
         tickets: [NO_TICKET; 95],
+        marks,
     }
 }
 
@@ -314,15 +319,12 @@ fn withdrawn_at(clock: u32) -> Ticket
     kept
 }
 
-// What follows alone reads or stores in the array of tickets.
-
-// What stands on an address; under 161 there is no ticket.
-fn ticket_on(desk: Desk, address: u8) -> Ticket
-    ensures { λ r. ⌜ r ≡ ticketOn desk address ⌝ }
+// What stands on an address, as a ticket; under 161 there is none.
+pub fn ticket_on(desk: Desk, address: u8) -> Ticket
+    ensures { λ r. ⌜ Stands desk address r ⌝ }
 {
     if 161 <= address {
-        let place = (address - 161) as usize;
-        return desk.tickets[place];
+        return ticket_at(desk, address - 161);
     }
     NO_TICKET
 }
@@ -334,13 +336,35 @@ fn free_distance(desk: Desk, clock: u32) -> u8
     let turn = desk.turn as usize;
     let mut k: u8 = 0;
     while k < 95 {
-        let place = (turn + k as usize) % 95;
-        if ticket::is_free(desk.tickets[place], clock) {
+        let place = ((turn + k as usize) % 95) as u8;
+        let passed = passed_by(desk, place, clock);
+        if passed == 0 {
             return k;
         }
-        k += 1;
+        k += passed;
     }
-    k
+    95
+}
+
+// How many places from this one on are not free, as far as is seen at once; 0 where it is free. A run
+// of marks is passed by in one step, and a place that is not marked by its rest alone.
+fn passed_by(desk: Desk, place: u8, clock: u32) -> u8
+    requires { ⌜ place < 95 ⌝ }
+    ensures { λ r. ⌜ PassesBy desk place clock r ⌝ }
+{
+    let run = marks::run(desk.marks, place);
+    let left = 95 - place;
+    if left < run {
+        return left;
+    }
+    if 0 < run {
+        return run;
+    }
+    let at = place as usize;
+    if ticket::is_resting(desk.tickets[at], clock) {
+        return 1;
+    }
+    0
 }
 
 // The lowest place with a due ticket; 95 where there is none.
@@ -349,8 +373,7 @@ fn due_place(desk: Desk, clock: u32) -> u8
 {
     let mut k: u8 = 0;
     while k < 95 {
-        let place = k as usize;
-        if ticket::is_due(desk.tickets[place], clock) {
+        if ticket::is_due(ticket_at(desk, k), clock) {
             return k;
         }
         k += 1;
@@ -364,8 +387,7 @@ fn holder_place(desk: Desk, job: u32, folder: u32) -> u8
 {
     let mut k: u8 = 0;
     while k < 95 {
-        let place = k as usize;
-        if ticket::bars(desk.tickets[place], job, folder) {
+        if ticket::bars(ticket_at(desk, k), job, folder) {
             return k;
         }
         k += 1;
@@ -373,18 +395,27 @@ fn holder_place(desk: Desk, job: u32, folder: u32) -> u8
     k
 }
 
+// What follows alone reads or stores whole tickets in the array, and the marks beside them.
+
+// What stands at a place: a ticket is open there while the place is marked.
+fn ticket_at(desk: Desk, place: u8) -> Ticket
+    requires { ⌜ place < 95 ⌝ }
+    ensures { λ r. ⌜ r ≡ ticketAt desk place ⌝ }
+{
+    let at = place as usize;
+    let mut ticket = desk.tickets[at];
+    ticket.live = marks::is_marked(desk.marks, place);
+    ticket
+}
+
 // The ticket stands at the place, and the turn moves to the place after it.
 fn with_ticket(desk: Desk, place: u8, ticket: Ticket) -> Desk
     requires { ⌜ place < 95 ⌝ }
     ensures { λ r. ⌜ r ≡ withTicket desk place ticket ⌝ }
 {
-    let mut tickets = desk.tickets;
-    let given = place as usize;
-    tickets[given] = ticket;
-    Desk {
-        turn: (place + 1) % 95,
-        tickets,
-    }
+    let mut next = put_at(desk, place, ticket);
+    next.turn = (place + 1) % 95;
+    next
 }
 
 // Something else stands at the place. The turn stays.
@@ -395,8 +426,10 @@ fn put_at(desk: Desk, place: u8, ticket: Ticket) -> Desk
     let mut tickets = desk.tickets;
     let at = place as usize;
     tickets[at] = ticket;
+    let marks = marks::with_mark(desk.marks, place, ticket.live);
     Desk {
         turn: desk.turn,
         tickets,
+        marks,
     }
 }

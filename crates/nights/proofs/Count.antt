@@ -11,7 +11,8 @@ use borrow.Author.Tests.{eqb-true, ne-eqb}
 use lib.Dec.{eqb}
 use Rattle.rows.proofs.Laws.{Decides, decides-eq, decides-not, decides-and, decides-set, told-true}
 use Rattle.desk.specs.Open.{givenPlace}
-use Rattle.desk.specs.Desk.{freshDesk, ticketAt}
+use Rattle.marks.specs.Marks.{isMarked}
+use Rattle.desk.specs.Desk.{freshDesk, standingFrom, ticketAt}
 use Rattle.ticket.proofs.Laws.{decides-off}
 use Rattle.ticket.specs.Due.{age}
 use Rattle.ticket.specs.Rest.{Free}
@@ -135,5 +136,5 @@ openings-between desk first p g calls second again = given-count calls (after de
 
 -- on a desk without tickets there are 94 others
 pub fresh-others : othersFree freshDesk 0 ≡ 94
-unfolding othersFree countOf
+unfolding othersFree countOf standingFrom isMarked
 fresh-others = refl

@@ -11,9 +11,8 @@ use native.Mathlib.Decide.{decLe}
 use borrow.Author.Tests.{eqb-true, eqb-false, le-leb}
 use lib.Dec.{eqb}
 use lib.ListN.{length}
-use lib.Seq.{getD-set-other}
 use Rattle.rows.proofs.Laws.{clash}
-use Rattle.desk.proofs.Laws.{open-within, fit-to-open, fit-to-book, fit-to-cancel, fit-to-expire, opened-fit}
+use Rattle.desk.proofs.Laws.{open-within, put-other, fit-to-open, fit-to-book, fit-to-cancel, fit-to-expire, opened-fit}
 use Rattle.desk.proofs.Ranking.{search-passed}
 use Rattle.desk.specs.Close.{cancelRefusal, duePlace, expireRefusal, closeAnswer, closeDesk}
 use Rattle.desk.specs.Desk.{ticketAt, ticketOn, OpenOn, putAt}
@@ -28,7 +27,7 @@ use Rattle.telegram.specs.Read.{fieldsIn}
 use Rattle.telegram.specs.declared.Fields.{Fields}
 use Rattle.ticket.proofs.Laws.{taken-not-free}
 use Rattle.ticket.specs.Rest.{Free}
-use Rattle.ticket.specs.Ticket.{Open, noTicket, newTicket}
+use Rattle.ticket.specs.Ticket.{Open, newTicket}
 use Rattle.ticket.specs.declared.Ticket.{Ticket}
 use Rattle.nights.specs.Night.{Call, after, afterAll, eventOf, ofOpening, ofBooking, ofClosing}
 use Rattle.nights.specs.Round.{GivesAt, Gives, PassesOver, Among, Each, Met, GivenIn, OpensWhile, oneOpening}
@@ -227,7 +226,7 @@ put-elsewhere : (desk : Desk) (address : ℕ) (left : Ticket) (place : ℕ) → 
     → ticketAt (putAt desk (address - 161) left) place ≡ ticketAt desk place
 put-elsewhere desk address left place live shut =
     let open-there : Open (ticketAt desk (address - 161)) = rw (le-leb 161 address (open-within desk address live .0)) at live in
-    getD-set-other (desk .tickets) (address - 161) place left noTicket
+    put-other desk (address - 161) left place
     (λ e. true≢false (sym open-there ∙ ap (λ (i : ℕ). ticketAt desk i .live) (sym e) ∙ shut))
 
 closing-elsewhere : (o : Option Fault) (desk : Desk) (address clock place : ℕ) → (o ≡ none → OpenOn desk address) → ticketAt desk place .live ≡ false
@@ -256,7 +255,7 @@ given-or-stays desk (asks asked bytes clock room) place shut =
     go (some f) e t p = inr (rw e)
     go none e true p = inl (clock, rw (eqb-true place (givenPlace desk clock) p) (opening-sweeps desk asked bytes clock room e .gives))
     go none e false p =
-        inr (rw e (getD-set-other (desk .tickets) (givenPlace desk clock) place ticket noTicket (eqb-false place (givenPlace desk clock) p)))
+        inr (rw e (put-other desk (givenPlace desk clock) ticket place (eqb-false place (givenPlace desk clock) p)))
 given-or-stays desk (brings frame room) place shut =
     inr (booking-elsewhere (replyRefusal desk frame (length room)) desk (fieldsIn frame) place (λ e. fit-to-book desk frame (length room) e .1) shut)
 given-or-stays desk (cancels job address clock) place shut =

@@ -26,7 +26,8 @@ use Rattle.ticket.specs.declared.Ticket.{Ticket}
 use Rattle.desk.proofs.Laws.{on-host, withdraws-alone, fit-to-book, fit-to-cancel, fit-to-expire}
 use Rattle.desk.proofs.Ranking.{search-ended, book-tells}
 use Rattle.desk.specs.Close.{cancelRefusal, duePlace, expireRefusal, closeAnswer, closeDesk, withdrawnOn}
-use Rattle.desk.specs.Desk.{freshDesk, ticketAt, ticketOn, OpenOn, faultNumber}
+use Rattle.marks.specs.Marks.{isMarked, withMark}
+use Rattle.desk.specs.Desk.{freshDesk, standingFrom, ticketAt, ticketOn, OpenOn, faultNumber}
 use Rattle.desk.specs.Open.{placeFrom, distanceOf, givenPlace, openRefusal, openAnswer, withTicket}
 use Rattle.desk.specs.Reply.{bookRefusal, replyRefusal, bookAnswer, bookTold, Replies}
 use Rattle.desk.specs.declared.AfterReply.{AfterReply}
@@ -100,7 +101,7 @@ closing-not-booked (some f) there address at job x source sort register folder e
 -- one such cancel
 a-cancel : eventOf (withTicket freshDesk 0 (newTicket (record { job = 7; unit = 15; sort = 4; register = 102; wait = 1000; folder = 3 }) 0)) (cancels 7 161 40)
     ≡ withdrawn 7 (161 + 0) 3 40
-unfolding eventOf cancelRefusal
+unfolding eventOf cancelRefusal standingFrom isMarked withMark
 a-cancel = refl
 
 module _ (desk : Desk) (closing : Call) (job place folder closed : ℕ)

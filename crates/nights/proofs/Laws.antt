@@ -5,16 +5,17 @@ use mathlib.Core.Bool.{Bool, true, false, cond, not, true≢false}
 use mathlib.Core.List.{List, [], _∷_, _++_}
 use mathlib.Core.Logic.{_≢_}
 use mathlib.Core.Option.{Option, some, none}
-use Prim.Native.Nat.{ℕ, zero, suc, _+_, _-_, _≤_}
+use Prim.Native.Nat.{ℕ, zero, suc, _+_, _-_, _≤_, _<_}
 use native.Mathlib.Omega.{arith}
 use borrow.Author.Tests.{eqb-true, eqb-false, not-false}
 use lib.Dec.{eqb, leb}
-use lib.ListN.{length, getD, set, replicate, length-set, length-replicate}
+use lib.ListN.{length, getD, set, length-set, length-replicate}
 use Rattle.desk.proofs.Laws.{open-within, answers-alone, withdraws-alone, given-at, empty-place}
 use Rattle.desk.proofs.Folder.{folder-apart}
+use Rattle.desk.proofs.Standing.{standing-put}
 use Rattle.desk.proofs.Laws.{fit-to-open, fit-to-book, fit-to-cancel, fit-to-expire}
 use Rattle.desk.specs.Close.{cancelRefusal, duePlace, expireRefusal, closeAnswer, closeDesk, withdrawnOn, Cancels, Expires}
-use Rattle.desk.specs.Desk.{freshDesk, ticketOn, OpenOn, putAt}
+use Rattle.desk.specs.Desk.{freshDesk, standing, placeIn, ticketAt, ticketOn, OpenOn, putAt}
 use Rattle.desk.specs.Folder.{IsFolderHeld}
 use Rattle.desk.specs.Open.{givenPlace, requestAt, openRefusal, openAnswer, withTicket, openDesk, Opens}
 use Rattle.desk.specs.Outcome.{Given, ClosedAlone}
@@ -44,15 +45,22 @@ use Rattle.nights.specs.Night.{Last, lastOn, MayBeGiven, FolderFree, Fit
 use Rattle.nights.specs.Night.{asks, brings, cancels, expires, opened, booked, withdrawn, nothing, never, stands, answered, givenUp}
 
 -- each ticket after a store is sound, if those before it are and the new one is, or is none
-sound-store : (tickets : List Ticket) (place : ℕ) (ticket : Ticket)
+stored-sound : (tickets : List Ticket) (place : ℕ) (ticket : Ticket)
     → ((i : ℕ) → Open (getD tickets i noTicket) → SoundRequest (getD tickets i noTicket .asked))
     → (Open ticket → SoundRequest (ticket .asked))
     → (i : ℕ) → Open (getD (set tickets place ticket) i noTicket) → SoundRequest (getD (set tickets place ticket) i noTicket .asked)
-sound-store [] place ticket all new i live = all i live
-sound-store (t ∷ tickets) zero ticket all new zero live = new live
-sound-store (t ∷ tickets) zero ticket all new (suc i) live = all (suc i) live
-sound-store (t ∷ tickets) (suc place) ticket all new zero live = all 0 live
-sound-store (t ∷ tickets) (suc place) ticket all new (suc i) live = sound-store tickets place ticket (λ j. all (suc j)) new i live
+stored-sound [] place ticket all new i live = all i live
+stored-sound (t ∷ tickets) zero ticket all new zero live = new live
+stored-sound (t ∷ tickets) zero ticket all new (suc i) live = all (suc i) live
+stored-sound (t ∷ tickets) (suc place) ticket all new zero live = all 0 live
+stored-sound (t ∷ tickets) (suc place) ticket all new (suc i) live = stored-sound tickets place ticket (λ j. all (suc j)) new i live
+
+put-sound : (desk : Desk) (place : ℕ) (ticket : Ticket) → (Open ticket → place < 128)
+    → ((i : ℕ) → Open (ticketAt desk i) → SoundRequest (ticketAt desk i .asked)) → (Open ticket → SoundRequest (ticket .asked))
+    → (i : ℕ) → Open (ticketAt (putAt desk place ticket) i) → SoundRequest (ticketAt (putAt desk place ticket) i .asked)
+put-sound desk place ticket near all new i =
+    subst (λ (ts : List Ticket). Open (placeIn ts i) → SoundRequest (placeIn ts i .asked))
+    (sym (standing-put (desk .marks) (desk .tickets) place ticket near)) (stored-sound (standing desk) place ticket all new i)
 
 -- ---- what rows 10 to 14 let through is sound
 
@@ -139,7 +147,7 @@ given desk past asked clock n g new free =
           record {
             turn-within = omega arith;
             places = length-set (desk .tickets) place ticket ∙ n .sound .places;
-            sound = sound-store (desk .tickets) place ticket (n .sound .sound) (λ l. new);
+            sound = put-sound desk place ticket (λ l. within) (n .sound .sound) (λ l. new);
           };
       apart = apart-given g (n .apart) keeps-off;
       kept = λ x. on x (eqb x (161 + place)) refl;
@@ -158,6 +166,9 @@ given desk past asked clock n g new free =
 
     ticket : Ticket
     ticket = newTicket asked clock
+
+    within : place < 128
+    within = omega (arith, g .last)
 
     keeps-off : (other : ℕ) → OpenOn desk other → ticketOn desk other .asked .job ≢ asked .job → asked .folder ≢ 0 → ticketOn desk other .asked .folder ≢ asked .folder
     keeps-off = folder-apart desk asked (n .sound .places) free
@@ -183,7 +194,7 @@ closed-sound desk place left shut s =
     record {
       turn-within = s .turn-within;
       places = length-set (desk .tickets) place left ∙ s .places;
-      sound = sound-store (desk .tickets) place left (s .sound) (λ l. absurd (true≢false (sym l ∙ shut)));
+      sound = put-sound desk place left (λ l. absurd (true≢false (sym l ∙ shut))) (s .sound) (λ l. absurd (true≢false (sym l ∙ shut)));
     }
 
 -- ---- one call
@@ -277,8 +288,8 @@ module _ (desk : Desk) (past : List Event) (n : Night desk past) where
 no-ticket : (address : ℕ) → ticketOn freshDesk address ≡ noTicket
 no-ticket address = go (leb 161 address)
   where
-    go : (t : Bool) → cond t (getD (replicate 95 noTicket) (address - 161) noTicket) noTicket ≡ noTicket
-    go true = empty-place 95 (address - 161)
+    go : (t : Bool) → cond t (ticketAt freshDesk (address - 161)) noTicket ≡ noTicket
+    go true = empty-place (address - 161)
     go false = refl
 
 fresh-night : Night freshDesk []
@@ -289,7 +300,7 @@ fresh-night =
           record {
             turn-within = omega arith;
             places = length-replicate 95 noTicket;
-            sound = λ place live. absurd (true≢false (sym live ∙ ap (λ (t : Ticket). t .live) (empty-place 95 place)));
+            sound = λ place live. absurd (true≢false (sym live ∙ ap (λ (t : Ticket). t .live) (empty-place place)));
           };
       apart = λ a b live-a live-b jobs used same. true≢false (sym live-a ∙ ap (λ (t : Ticket). t .live) (no-ticket a));
       kept = λ address. no-ticket address;

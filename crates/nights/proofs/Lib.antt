@@ -5,3 +5,4 @@ pub mod Count
 pub mod Late
 pub mod Looked
 pub mod Between
+pub mod Unmarked

@@ -1,3 +1,4 @@
 pub mod Night
 pub mod Round
 pub mod Between
+pub mod Unmarked

@@ -9,7 +9,7 @@ use native.Mathlib.Decide.{decLt}
 use native.Mathlib.Omega.{arith}
 use lib.ListN.{length, getD, take, drop, replicate}
 use Rattle.lent.specs.Lent.{over}
-use lib.Seq.{getD-set-same, getD-set-other, getD-take, take-append-seam, drop-append-seam}
+use lib.Seq.{getD-take, take-append-seam, drop-append-seam}
 use Rattle.lent.proofs.Laws.{length-over, over-is}
 use Rattle.first.proofs.Laws.{ended}
 use Rattle.rows.proofs.Settled.{settled-parts}
@@ -17,7 +17,7 @@ use Rattle.rows.specs.Settled.{Settled}
 use Rattle.desk.specs.Close.{duePlace, withdrawnOn, Expires}
 use Rattle.desk.specs.Desk.{ticketAt, ticketOn, OpenOn, freshDesk}
 use Rattle.nights.proofs.Laws.{any-night, then-all}
-use Rattle.desk.proofs.Laws.{on-host, open-within}
+use Rattle.desk.proofs.Laws.{on-host, open-within, put-here, put-other}
 use Rattle.ticket.specs.Due.{IsDue, isDue}
 use Rattle.ticket.specs.Ticket.{noTicket, withdrawnAt}
 use Rattle.ticket.proofs.Laws.{decides-due}
@@ -88,7 +88,7 @@ entry-on job address folder rest i =
 other-place : (desk : Desk) (clock k j : ℕ) → j ≢ k → ticketAt (withdrawnOn desk (161 + k) clock) j ≡ ticketAt desk j
 other-place desk clock k j n =
     subst (λ (d : Desk). ticketAt d j ≡ ticketAt desk j) (sym (withdrawn-at desk clock k))
-    (getD-set-other (desk .tickets) k j (withdrawnAt clock) noTicket n)
+    (put-other desk k (withdrawnAt clock) j n)
 
 -- what is due after one closing was due before, and stands above it
 due-still : (desk : Desk) (clock k j : ℕ) → NoneUnder desk clock k → isDue clock (ticketAt (withdrawnOn desk (161 + k) clock) j) ≡ true
@@ -213,7 +213,8 @@ others-stay (suc n) desk clock place apart = ⊎-elim
 closed-rests : (desk : Desk) (clock k : ℕ) → isDue clock (ticketAt desk k) ≡ true → ticketAt (withdrawnOn desk (161 + k) clock) k ≡ withdrawnAt clock
 closed-rests desk clock k due =
     let there : k < length (desk .tickets) = open-place desk k (due-on desk clock k due .0) in
-    subst (λ (d : Desk). ticketAt d k ≡ withdrawnAt clock) (sym (withdrawn-at desk clock k)) (getD-set-same (desk .tickets) k (withdrawnAt clock) noTicket there)
+    subst (λ (d : Desk). ticketAt d k ≡ withdrawnAt clock) (sym (withdrawn-at desk clock k))
+    (put-here desk k (withdrawnAt clock) (λ l. absurd (true≢false (sym l))) there)
   where
     open-place : (desk : Desk) (k : ℕ) → OpenOn desk (161 + k) → k < length (desk .tickets)
     open-place desk k o = omega (arith, open-within desk (161 + k) o .1)

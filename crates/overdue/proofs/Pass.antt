@@ -2,7 +2,7 @@
 -- single expiry would close the next due ticket from there on.
 -- Assumes nothing.
 use mathlib.Core.Path.{_≡_, refl, sym, ap, ap₂, subst, _∙_}
-use mathlib.Core.Bool.{Bool, true, false, _&&_}
+use mathlib.Core.Bool.{Bool, true, false, _&&_, true≢false}
 use mathlib.Core.List.{List, [], _∷_}
 use mathlib.Core.Option.{none}
 use Prim.Native.Nat.{ℕ, zero, suc, _+_, _-_, _*_, _/_, _≤_, _<_}
@@ -11,13 +11,14 @@ use native.Mathlib.Omega.{arith}
 use borrow.Author.Count.{below-more}
 use borrow.Author.Tests.{lt-leb, eq-eqb}
 use lib.ListN.{length, getD, set, length-set, List·getD-eq-default}
-use lib.Seq.{getD-set-same, getD-set-other, set-out}
+use lib.Seq.{getD-set-same, set-out}
 use Rattle.lent.specs.Lent.{over, overAt}
 use Rattle.lent.proofs.Laws.{length-overAt, overAt-none, overAt-set, overAt-append, overAt-zero}
 use Rattle.first.proofs.Laws.{first-at, first-none}
 use Rattle.desk.specs.Close.{duePlace, expireRefusal, cancelRefusal, withdrawnOn, Cancels}
-use Rattle.desk.specs.Desk.{ticketAt}
-use Rattle.desk.proofs.Laws.{on-host}
+use Rattle.desk.specs.Desk.{standing, placeIn, ticketAt, ticketOn, putAt}
+use Rattle.desk.proofs.Laws.{on-host, put-other}
+use Rattle.desk.proofs.Standing.{standing-put}
 use Rattle.ticket.specs.Due.{isDue}
 use Rattle.ticket.specs.Ticket.{noTicket, withdrawnAt}
 use Rattle.ticket.specs.declared.Ticket.{Ticket}
@@ -52,20 +53,24 @@ unfolding expired expireRefusal
 expired-none desk clock before = rw (none-here desk clock before)
 
 -- a ticket that was closed is not due, and no other has changed
-withdrawn-not-due : (desk : Desk) (clock k : ℕ) → isDue clock (getD (set (desk .tickets) k (withdrawnAt clock)) k noTicket) ≡ false
-withdrawn-not-due desk clock k = elim (decLt k (length (desk .tickets))) [
-  | yes h ↦ ap (isDue clock) (getD-set-same (desk .tickets) k (withdrawnAt clock) noTicket h)
-  | no h ↦ ap (isDue clock) (ap (λ (ts : List Ticket). getD ts k noTicket) (set-out (desk .tickets) k (withdrawnAt clock) (omega arith))
-      ∙ List·getD-eq-default (desk .tickets) noTicket {n = k} (omega arith))
-]
+withdrawn-not-due : (desk : Desk) (clock k : ℕ) → isDue clock (ticketAt (putAt desk k (withdrawnAt clock)) k) ≡ false
+withdrawn-not-due desk clock k =
+    ap (λ (ts : List Ticket). isDue clock (placeIn ts k)) (standing-put (desk .marks) (desk .tickets) k (withdrawnAt clock) (λ l. absurd (true≢false (sym l))))
+    ∙ go (decLt k (length (standing desk)))
+  where
+    go : Dec (k < length (standing desk)) → isDue clock (getD (set (standing desk) k (withdrawnAt clock)) k noTicket) ≡ false
+    go (yes h) = ap (isDue clock) (getD-set-same (standing desk) k (withdrawnAt clock) noTicket h)
+    go (no h) =
+        ap (isDue clock) (ap (λ (ts : List Ticket). getD ts k noTicket) (set-out (standing desk) k (withdrawnAt clock) (omega arith))
+        ∙ List·getD-eq-default (standing desk) noTicket {n = k} (omega arith))
 
-pub withdrawn-at : (desk : Desk) (clock k : ℕ) → withdrawnOn desk (161 + k) clock ≡ record { turn = desk .turn; tickets = set (desk .tickets) k (withdrawnAt clock) }
+pub withdrawn-at : (desk : Desk) (clock k : ℕ) → withdrawnOn desk (161 + k) clock ≡ putAt desk k (withdrawnAt clock)
 withdrawn-at desk clock k = let e : 161 + k - 161 ≡ k = omega arith in rw e
 
 pub none-on : (desk : Desk) (clock k : ℕ) → NoneUnder desk clock k → NoneUnder (withdrawnOn desk (161 + k) clock) clock (k + 1)
 none-on desk clock k before =
     subst (λ (d : Desk). NoneUnder d clock (k + 1)) (sym (withdrawn-at desk clock k))
-    (below-more _ k (λ j h. ap (isDue clock) (getD-set-other (desk .tickets) k j (withdrawnAt clock) noTicket (λ e. omega (arith, e, h))) ∙ before j h)
+    (below-more _ k (λ j h. ap (isDue clock) (put-other desk k (withdrawnAt clock) j (λ e. omega (arith, e, h))) ∙ before j h)
     (withdrawn-not-due desk clock k))
 
 -- ---- where nothing is due, no single call does anything
@@ -194,20 +199,28 @@ three-stored list k x y z h =
     ∙ (overAt-none (suc (suc (suc k))) (set (set (set list k x) (suc k) y) (suc (suc k)) z)
     ∙ ap₂ (λ (i j : ℕ). set (set (set list k x) i y) j z) (omega arith) (omega arith)))))
 
-pub looked-due : (before : Swept) (place clock : ℕ) (list : List ℕ) (due : Bool) (after : AfterClose) → due ≡ isDue clock (ticketAt (before .desk) place) → due ≡ true
-    → 3 * before .count + 2 < length list → Cancels (before .desk) (ticketAt (before .desk) place .asked .job) (161 + place) clock after
-    → LooksAt before place clock list (record { desk = after .desk; count = before .count + 1 })
-    (set (set (set list (3 * before .count) (ticketAt (before .desk) place .asked .job)) (3 * before .count + 1) (161 + place)) (3 * before .count + 2)
-    (ticketAt (before .desk) place .asked .folder))
-looked-due before place clock list due after e t room p =
-    let is : isDue clock (ticketAt (before .desk) place) ≡ true = sym e ∙ t in
-    let closed : after .desk ≡ withdrawnOn (before .desk) (161 + place) clock = rw (cancel-due (before .desk) clock place is) at (p .1) in
-    rw (is, closed)
-    (refl, three-stored list (3 * before .count) (ticketAt (before .desk) place .asked .job) (161 + place) (ticketAt (before .desk) place .asked .folder) room)
+-- of what stands on the address that is looked at
+module _ (before : Swept) (place clock : ℕ) (list : List ℕ) (ticket : Ticket) (due : Bool) (on : ticket ≡ ticketOn (before .desk) (161 + place))
+    (e : due ≡ isDue clock ticket) where
+  stands : ticket ≡ ticketAt (before .desk) place
+  stands = on ∙ on-host (before .desk) place
 
-pub looked-not : (before : Swept) (place clock : ℕ) (list : List ℕ) (due : Bool) → due ≡ isDue clock (ticketAt (before .desk) place) → due ≡ false
-    → LooksAt before place clock list before list
-looked-not before place clock list due e t = rw (sym e ∙ t) (refl, sym (overAt-none (3 * before .count) list))
+  told : due ≡ isDue clock (ticketAt (before .desk) place)
+  told = e ∙ ap (isDue clock) stands
+
+  pub looked-due : (after : AfterClose) → due ≡ true → 3 * before .count + 2 < length list
+      → Cancels (before .desk) (ticket .asked .job) (161 + place) clock after
+      → LooksAt before place clock list (record { desk = after .desk; count = before .count + 1 })
+      (set (set (set list (3 * before .count) (ticket .asked .job)) (3 * before .count + 1) (161 + place)) (3 * before .count + 2) (ticket .asked .folder))
+  looked-due after t room p =
+      let is : isDue clock (ticketAt (before .desk) place) ≡ true = sym told ∙ t in
+      let q : Cancels (before .desk) (ticketAt (before .desk) place .asked .job) (161 + place) clock after = rw (← stands) p in
+      let closed : after .desk ≡ withdrawnOn (before .desk) (161 + place) clock = rw (cancel-due (before .desk) clock place is) at (q .1) in
+      rw (stands, is, closed)
+      (refl, three-stored list (3 * before .count) (ticketAt (before .desk) place .asked .job) (161 + place) (ticketAt (before .desk) place .asked .folder) room)
+
+  pub looked-not : due ≡ false → LooksAt before place clock list before list
+  looked-not t = rw (sym told ∙ t) (refl, sym (overAt-none (3 * before .count) list))
 
 pub room-is : (list : List ℕ) → roomIn list ≡ length list / 3
 unfolding roomIn

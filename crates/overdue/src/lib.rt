@@ -37,11 +37,10 @@ fn look_at(before: Swept, place: u8, clock: u32, list: &mut [u32]) -> Swept
     ensures { λ r. ⌜ LooksAt before place clock (now (list .entry)) r (now (list .exit)) ⌝ }
 {
     let desk = before.desk;
-    let at = place as usize;
-    let ticket = desk.tickets[at];
+    let address = 161 + place;
+    let ticket = desk::ticket_on(desk, address);
     if ticket::is_due(ticket, clock) {
         let job = ticket.asked.job;
-        let address = 161 + place;
         let after = desk::cancel(desk, job, address, clock);
         let next = after.desk;
         let entry = 3 * before.count;

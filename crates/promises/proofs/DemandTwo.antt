@@ -59,7 +59,7 @@ pub use Rattle.ticket.proofs.Laws.{tells-barred}
 -- 02, #108: how far an opening looked, and what its refusals say of that
 pub use Rattle.desk.proofs.Count.{opened-count, opened-considered, refused-count, no-room-considered, same-with-room, considered-plainly, one-up}
 pub use Rattle.ticket.proofs.Laws.{read-answered-by, write-answered-by, zero-carried-by, own-carried-by, other-carried-by}
-pub use Rattle.ticket.proofs.Laws.{tells-free, tells-due, age-after, age-set-back, set-back-due}
+pub use Rattle.ticket.proofs.Laws.{free-plainly, tells-resting, tells-due, age-after, age-set-back, set-back-due}
 pub use Rattle.ticket.proofs.Laws.{rests-under-1000, free-from-1000, rests-again, set-back-free}
 -- over any sequence of calls from a fresh desk: what stands on each address, that each answer belongs to the opening that stands there, and
 -- that the turn is fair

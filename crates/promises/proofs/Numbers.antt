@@ -20,6 +20,8 @@ use Rattle.receiver.specs.Receiver.{next, closing, told, stepFrom, stepRefusal,
 use Rattle.request.specs.Request.{askRefusal}
 use Rattle.ticket.specs.Due.{age}
 use Rattle.ticket.specs.Fit.{fitRefusal}
+use Rattle.marks.specs.Marks.{isMarked, withMark}
+use Rattle.desk.specs.Desk.{standingFrom}
 use Rattle.desk.specs.Folder.{holderPlace, isFolderHeld}
 use Rattle.desk.specs.Open.{distanceOf, givenPlace, openRefusal}
 use Rattle.desk.specs.Reply.{bookRefusal, replyRefusal}
@@ -41,7 +43,7 @@ unfolding allGiven firstPlace passedFrom substituted framed between restored mes
     hasStrayEnd hasBadSubstitution badPlace messageRefusal readRefusal fieldsOf dataOf readFrame sealed writeRefusal sizeOf isSigned isKind
     greatest fits natural bytesOf valueAt elementOf readValue values.readRefusal values.writeRefusal table isFor lineFor catalogue.named findRefusal findEntry
     readDeed writeDeed heldDeed makeRefusal addRefusal setRefusal placeOf deedOf replyFor replyOf requestRefusal takeRefusal
-    next closing told stepFrom stepRefusal stepOf askRefusal age fitRefusal isFolderHeld holderPlace distanceOf givenPlace openRefusal bookRefusal replyRefusal
+    next closing told stepFrom stepRefusal stepOf askRefusal age fitRefusal isFolderHeld holderPlace standingFrom isMarked withMark distanceOf givenPlace openRefusal bookRefusal replyRefusal
     edgeRefusal attenuationRefusal over ownLane emptyLane laneFor joinRefusal nextDistance grantRefusal withdrawRefusal
     lengthOf lengthsTo headOf tailOf rowsIn heads tails settingsIn isAbove isAllowed falls unfit someOf headerFor recordFor recordsFor valuesFor sheetOf
     fieldAt versionIn countIn recordsAt valuesAt recordsIn valuesIn isMisplaced checkRefusal sheet.readRefusal handed isMisstated writer.writeRefusal

@@ -9,6 +9,8 @@ use Rattle.request.specs.Request.{askRefusal}
 use Rattle.telegram.specs.Read.{hasStrayEnd, hasBadSubstitution, badPlace, messageRefusal, readRefusal, fieldsOf, dataOf, readFrame}
 use Rattle.telegram.specs.Write.{sealed}
 use Rattle.ticket.specs.Fit.{fitRefusal}
+use Rattle.marks.specs.Marks.{isMarked, withMark}
+use Rattle.desk.specs.Desk.{standingFrom}
 use Rattle.desk.specs.Folder.{holderPlace, isFolderHeld}
 use Rattle.desk.specs.Open.{distanceOf, givenPlace, openRefusal}
 use Rattle.values.specs.Values.{sizeOf, natural, bytesOf}
@@ -20,7 +22,7 @@ use Rattle.promises.specs.Slips.{allShow, slips}
 
 pub every-slip : allShow slips ≡ true
 unfolding allShow firstPlace passedFrom substituted framed between restored messageOf timesX timesXs withByte withBytes remainderOf
-    askRefusal hasStrayEnd hasBadSubstitution badPlace messageRefusal readRefusal fieldsOf dataOf readFrame sealed fitRefusal isFolderHeld holderPlace distanceOf
+    askRefusal hasStrayEnd hasBadSubstitution badPlace messageRefusal readRefusal fieldsOf dataOf readFrame sealed fitRefusal isFolderHeld holderPlace standingFrom isMarked withMark distanceOf
     givenPlace openRefusal sizeOf natural bytesOf readDeed writeDeed heldDeed placeOf deedOf replyFor replyOf requestRefusal
     takeRefusal doneTo toNext frameEvent eventOf eventsFrom eventsOf total
 every-slip = refl

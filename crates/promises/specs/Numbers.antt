@@ -4,7 +4,7 @@
 use mathlib.Core.Bool.{Bool, true, _&&_}
 use mathlib.Core.List.{List, [], _∷_}
 use mathlib.Core.Option.{Option}
-use Prim.Native.Nat.{ℕ, _+_}
+use Prim.Native.Nat.{ℕ, _+_, _-_, _^_}
 use lib.Dec.{eqb}
 use lib.ListN.{replicate}
 use Rattle.frame.specs.Frame.{framed}
@@ -23,6 +23,7 @@ use Rattle.bench.specs.declared.Bench.{Bench}
 use Rattle.receiver.specs.Receiver.{outsideAt, stepOf, stepTold}
 use Rattle.request.specs.declared.Request.{Request}
 use Rattle.ticket.specs.Ticket.{newTicket, withdrawnAt}
+use Rattle.marks.specs.Marks.{noMarks}
 use Rattle.desk.specs.Close.{withdrawnOn}
 use Rattle.desk.specs.Desk.{freshDesk, ticketOn}
 use Rattle.desk.specs.Open.{openRefusal, openAnswer, openTold, givenPlace, withTicket}
@@ -99,7 +100,7 @@ stepping place chunk = stepTold (stepOf (outsideAt place) chunk .answer)
 
 -- a desk on which every address rests from a clock on
 abbrev pub restingDesk : ℕ → Desk
-restingDesk clock = record { turn = 0; tickets = replicate 95 (withdrawnAt clock) }
+restingDesk clock = record { turn = 0; tickets = replicate 95 (withdrawnAt clock); marks = noMarks }
 
 abbrev pub opening : Desk → ℕ → Option ℕ
 opening desk clock = openTold (openAnswer (openRefusal desk request [] clock 494) (161 + givenPlace desk clock) 8)
@@ -110,7 +111,7 @@ noFolder = record { job = 7; unit = 15; sort = 4; register = 102; wait = 1000; f
 
 -- a desk on which every address has a ticket of job 7 for folder 3
 abbrev pub fullDesk : Desk
-fullDesk = record { turn = 0; tickets = replicate 95 (newTicket request 0) }
+fullDesk = record { turn = 0; tickets = replicate 95 (newTicket request 0); marks = record { low = 2 ^ 64 - 1; high = 2 ^ 31 - 1 } }
 
 -- a job's opening on a folder, with a waiting time
 abbrev pub openingOn : Desk → ℕ → ℕ → ℕ → Option ℕ

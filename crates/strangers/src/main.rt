@@ -7,6 +7,7 @@ use desk::Desk;
 use desk::Request;
 use desk::Ticket;
 use libc::STDOUT_FILENO;
+use marks::Marks;
 
 // Its type is no request's, it has no time to wait, and it is open and was given up at 7 at once.
 const ODD: Ticket = Ticket {
@@ -26,6 +27,8 @@ const ODD: Ticket = Ticket {
 
 fn main() {
     desks();
+    disagreeing();
+    beyond();
     parts();
     no_kind();
     twice();
@@ -37,9 +40,12 @@ fn main() {
 fn desks() {
     let fresh = desk::fresh();
     let none = fresh.tickets;
+    let unmarked = fresh.marks;
+    let first = marks::with_mark(unmarked, 0, true);
     let far = Desk {
         turn: 200,
         tickets: none,
+        marks: unmarked,
     };
     dump(call(far, b"desk.open 1 15 4 48 - 1 0 0 eeeeeeeeeeeeeeeeeeeeeeee"));
     let mut odd = none;
@@ -47,11 +53,13 @@ fn desks() {
     let past = Desk {
         turn: 95,
         tickets: odd,
+        marks: first,
     };
     dump(call(past, b"desk.reply 0da10f0330d3f30a eeeeeeee"));
     let last = Desk {
         turn: 255,
         tickets: odd,
+        marks: first,
     };
     call(
         call(last, b"desk.expire 0"),
@@ -63,6 +71,7 @@ fn desks() {
     let mut d = Desk {
         turn: 95,
         tickets: gone,
+        marks: unmarked,
     };
     d = call(d, b"desk.reply 0da10f0330d3f30a eeeeeeee");
     d = call(d, b"desk.cancel 9 161 0");
@@ -73,12 +82,66 @@ fn desks() {
     dump(d);
 }
 
+// Marks that disagree with the tickets: the mark decides. First a place that is marked and has no
+// ticket: it is not given, it counts as a ticket of no job and no module, and it can be cancelled. Then
+// a ticket whose place is not marked: it is not open, holds no folder and is not due; what it keeps of
+// a closing at 7 makes a reply late and lets the address rest to 1006.
+fn disagreeing() {
+    let fresh = desk::fresh();
+    let none = fresh.tickets;
+    let unmarked = fresh.marks;
+    let mut d = Desk {
+        turn: 0,
+        tickets: none,
+        marks: marks::with_mark(unmarked, 0, true),
+    };
+    d = call(d, b"desk.open 1 15 4 48 - 1 0 0 eeeeeeeeeeeeeeeeeeeeeeee");
+    d = call(d, b"desk.reply 0da10f0330d3f30a eeeeeeee");
+    d = call(d, b"desk.cancel 0 161 40");
+    dump(d);
+    let mut odd = none;
+    odd[0] = ODD;
+    let mut e = Desk {
+        turn: 0,
+        tickets: odd,
+        marks: unmarked,
+    };
+    e = call(e, b"desk.reply 0da10f0330d3f30a eeeeeeee");
+    e = call(e, b"desk.expire 0");
+    e = call(
+        e,
+        b"desk.open 1 15 4 48 - 1 6 1007 eeeeeeeeeeeeeeeeeeeeeeee",
+    );
+    dump(e);
+}
+
+// Marks past the last place are nobody's: from 255 the search goes on at 161.
+fn beyond() {
+    let fresh = desk::fresh();
+    let none = fresh.tickets;
+    let high = Marks {
+        low: 0,
+        high: 18446744072635809792,
+    };
+    let d = Desk {
+        turn: 94,
+        tickets: none,
+        marks: high,
+    };
+    dump(call(d, b"desk.open 1 15 4 48 - 1 0 0 eeeeeeeeeeeeeeeeeeeeeeee"));
+}
+
 // All 95 tickets are due at once, and the list has no room, part of an entry, one and a part, and two
 // and a part: the last part stays.
 fn parts() {
+    let all = Marks {
+        low: 18446744073709551615,
+        high: 2147483647,
+    };
     let due = Desk {
         turn: 0,
         tickets: [ODD; 95],
+        marks: all,
     };
     sweep(due, 0);
     sweep(due, 2);

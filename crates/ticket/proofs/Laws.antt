@@ -20,7 +20,7 @@ use Rattle.ticket.specs.Due.{age, IsDue, isDue, TellsDue}
 use Rattle.ticket.specs.Fit.{KindFits, RegisterFits, IsWithdrawn, IsNoTicket, IsOtherModule, IsOtherKind, IsOtherRegister, fitRows, kindFits, registerFits}
 use Rattle.ticket.specs.Fit.{fitTests, fitRefusal, fitAnswer, fitTold, faultNumber, Judges, Numbers, typesThat}
 use Rattle.ticket.specs.Folder.{Bars, isBarred, TellsBarred}
-use Rattle.ticket.specs.Rest.{Rests, isResting, Free, isFree, TellsFree}
+use Rattle.ticket.specs.Rest.{Rests, isResting, Free, isFree, TellsResting}
 use Rattle.ticket.specs.Ticket.{Open, withdrawnAt}
 use Rattle.ticket.specs.declared.Ticket.{Ticket}
 use Rattle.ticket.specs.declared.Fault.{Fault}
@@ -250,10 +250,16 @@ set-back-free closed clock hc h near = (refl, λ rests. omega (arith, rests .1, 
 pub number-is : (f : Fault) (r : ℕ) → Numbers f r → r ≡ faultNumber f
 number-is f r p = p
 
--- what `is_free`, `is_due` and `bars` tell, said out
-pub tells-free : (ticket : Ticket) (clock : ℕ) (r : Bool) → TellsFree ticket clock r
-    → (r ≡ true) ↔ ((ticket .live ≡ false) × ((ticket .withdrawn ≡ true) × (age clock (ticket .closed) < 1000) → ⊥))
-tells-free ticket clock r p = (λ e. decides-free clock ticket .so (sym p ∙ e), λ free. p ∙ told-true (decides-free clock ticket) free)
+-- which address may be given out, said out
+pub free-plainly : (ticket : Ticket) (clock : ℕ)
+    → (isFree clock ticket ≡ true) ↔ ((ticket .live ≡ false) × ((ticket .withdrawn ≡ true) × (age clock (ticket .closed) < 1000) → ⊥))
+free-plainly ticket clock = (decides-free clock ticket .so, told-true (decides-free clock ticket))
+
+-- what `is_resting`, `is_due` and `bars` tell, said out
+pub tells-resting : (ticket : Ticket) (clock : ℕ) (r : Bool) → TellsResting ticket clock r
+    → (r ≡ true) ↔ ((ticket .withdrawn ≡ true) × (age clock (ticket .closed) < 1000))
+tells-resting ticket clock r p =
+    (λ e. decides-resting clock ticket .so (sym p ∙ e), λ rests. p ∙ told-true (decides-resting clock ticket) rests)
 
 pub tells-due : (ticket : Ticket) (clock : ℕ) (r : Bool) → TellsDue ticket clock r
     → (r ≡ true) ↔ ((ticket .live ≡ true) × (ticket .asked .wait ≤ age clock (ticket .opened)))
@@ -269,8 +275,8 @@ tells-barred ticket job folder r p =
 pub judges-settled : (ticket : Ticket) (t : Fields) → Settled (Judges ticket t)
 judges-settled ticket t = settled _
 
-pub tells-free-settled : (ticket : Ticket) (clock : ℕ) → Settled (TellsFree ticket clock)
-tells-free-settled ticket clock = settled _
+pub tells-resting-settled : (ticket : Ticket) (clock : ℕ) → Settled (TellsResting ticket clock)
+tells-resting-settled ticket clock = settled _
 
 pub tells-due-settled : (ticket : Ticket) (clock : ℕ) → Settled (TellsDue ticket clock)
 tells-due-settled ticket clock = settled _

@@ -22,6 +22,6 @@ Free clock ticket = (ticket .live ≡ false) × (Rests clock ticket → ⊥)
 abbrev pub isFree : ℕ → Ticket → Bool
 isFree clock ticket = not (ticket .live) && not (isResting clock ticket)
 
--- the contract of `is_free`
-abbrev pub TellsFree : Ticket → ℕ → Bool → Type 0
-TellsFree ticket clock r = r ≡ isFree clock ticket
+-- the contract of `is_resting`
+abbrev pub TellsResting : Ticket → ℕ → Bool → Type 0
+TellsResting ticket clock r = r ≡ isResting clock ticket

@@ -9,7 +9,7 @@ use telegram::READ;
 ghost use Rattle.ticket.specs.Due.{TellsDue};
 ghost use Rattle.ticket.specs.Folder.{TellsBarred};
 ghost use Rattle.ticket.specs.Fit.{Judges, Numbers, kindFits, registerFits, wantedFor};
-ghost use Rattle.ticket.specs.Rest.{TellsFree, isResting};
+ghost use Rattle.ticket.specs.Rest.{TellsResting};
 ghost use mathlib.Core.Path.{_≡_};
 
 // A ticket is live while it is open. Of one that was cancelled or expired is kept that it was, and
@@ -70,16 +70,9 @@ pub fn number(fault: Fault) -> u8
     }
 }
 
-// Whether the address may be given out: no ticket is open there, and it does not rest.
-pub fn is_free(ticket: Ticket, clock: u32) -> bool
-    ensures { λ r. ⌜ TellsFree ticket clock r ⌝ }
-{
-    !ticket.live && !is_resting(ticket, clock)
-}
-
 // Whether the address rests after a cancel or an expiry.
-fn is_resting(ticket: Ticket, clock: u32) -> bool
-    ensures { λ r. ⌜ r ≡ isResting clock ticket ⌝ }
+pub fn is_resting(ticket: Ticket, clock: u32) -> bool
+    ensures { λ r. ⌜ TellsResting ticket clock r ⌝ }
 {
     let age = std::num::wrapping_sub_u32(clock, ticket.closed);
     ticket.withdrawn && age < REST

@@ -12,7 +12,9 @@ use Rattle.telegram.specs.Write.{sealed}
 use Rattle.ticket.specs.Due.{age}
 use Rattle.request.specs.Request.{askRefusal}
 use Rattle.request.specs.declared.Request.{Request}
-use Rattle.desk.specs.Desk.{freshDesk}
+use Rattle.marks.specs.Marks.{isMarked, withMark}
+use Rattle.marks.specs.Marks.{isMarked, withMark}
+use Rattle.desk.specs.Desk.{freshDesk, standingFrom, standingFrom}
 use Rattle.desk.specs.Folder.{holderPlace, isFolderHeld}
 use Rattle.desk.specs.Open.{distanceOf, givenPlace, openRefusal}
 use Rattle.lanes.specs.Grant.{nextDistance, nextPlace, grantRefusal}
@@ -43,13 +45,13 @@ four-each = allAfter (record { lanes = freshLanes; desk = freshDesk }) (each 16 
 -- the first of its lane, after 15 turns and after 16
 pub first-reached : (counted all-joined (turns 15) ≡ 15) × (fate all-joined (turns 15) 15 (waits 0) ≡ waits 0) × (fate all-joined (turns 16) 15 (waits 0) ≡ hadTurn)
 unfolding allAfter after counted counts fate fateBy joinRefusal laneFor ownLane emptyLane firstPlace passedFrom askRefusal over grantRefusal
-    nextDistance nextPlace openRefusal isFolderHeld holderPlace distanceOf givenPlace deskAfter age substituted framed timesX timesXs withByte withBytes remainderOf sealed
+    nextDistance nextPlace openRefusal isFolderHeld holderPlace standingFrom isMarked withMark distanceOf givenPlace deskAfter age substituted framed timesX timesXs withByte withBytes remainderOf sealed
 first-reached = (refl, refl, refl)
 
 -- the fourth of its lane, after 63 turns and after 64
 pub fourth-reached : (counted four-each (turns 63) ≡ 63) × (fate four-each (turns 63) 15 (waits 3) ≡ waits 0) × (fate four-each (turns 64) 15 (waits 3) ≡ hadTurn)
 unfolding allAfter after counted counts fate fateBy joinRefusal laneFor ownLane emptyLane firstPlace passedFrom askRefusal over grantRefusal
-    nextDistance nextPlace openRefusal isFolderHeld holderPlace distanceOf givenPlace deskAfter age substituted framed timesX timesXs withByte withBytes remainderOf sealed
+    nextDistance nextPlace openRefusal isFolderHeld holderPlace standingFrom isMarked withMark distanceOf givenPlace deskAfter age substituted framed timesX timesXs withByte withBytes remainderOf sealed
 fourth-reached = (refl, refl, refl)
 
 -- ---- one that is taken out: job 8 waits for a folder that an open ticket of job 7 holds
@@ -67,6 +69,6 @@ pub taken-reached : (counted held (turns 1) ≡ 1)
     × (allAfter held (turns 1) .lanes .last ≡ 0)
     × (allAfter held (turns 1) .desk ≡ held .desk)
 unfolding allAfter after counted counts fate fateBy eventOf joinRefusal laneFor ownLane emptyLane firstPlace passedFrom askRefusal over grantRefusal
-    nextDistance nextPlace openRefusal isFolderHeld holderPlace distanceOf givenPlace deskAfter age substituted framed timesX timesXs withByte withBytes
+    nextDistance nextPlace openRefusal isFolderHeld holderPlace standingFrom isMarked withMark distanceOf givenPlace deskAfter age substituted framed timesX timesXs withByte withBytes
     remainderOf sealed
 taken-reached = (refl, refl, refl, refl, refl)

@@ -1,4 +1,4 @@
-use mathlib.Core.Path.{_≡_, sym, _∙_}
+use mathlib.Core.Path.{_≡_, sym, ap, _∙_}
 use mathlib.Core.Bool.{false}
 use Prim.Native.Nat.{ℕ, _-_, _≤_, _<_}
 use native.Mathlib.Omega.{arith}
@@ -13,22 +13,16 @@ use Rattle.desk.proofs.Calls.{end-none}
 use Rattle.desk.proofs.due_place.Tie as tie
 
 abbrev Inv-loop : tie.InvT-loop
-Inv-loop clock desk k₀ k = (k ≤ 95) × ((i : ℕ) → i < k → isDue clock (ticketAt desk i) ≡ false)
+Inv-loop desk clock k₀ k = (k ≤ 95) × ((i : ℕ) → i < k → isDue clock (ticketAt desk i) ≡ false)
 
 abbrev μ-loop : tie.MeasureT-loop
-μ-loop clock desk k₀ k = 95 - k
+μ-loop desk clock k₀ k = 95 - k
 
 loop-holds : tie.Need-loop-holds Inv-loop μ-loop
 loop-holds c = (omega arith, λ i l. absurd (omega arith))
 
-cast-place : tie.Need-cast-place Inv-loop μ-loop
-cast-place c = search needs
-
-mul-is-due : tie.Need-mul-is-due Inv-loop μ-loop
-mul-is-due c = search needs
-
-element-copy-out-is-due : tie.Need-element-copy-out-is-due Inv-loop μ-loop
-element-copy-out-is-due c = search needs
+ticket-at-requires : tie.Need-ticket-at-requires Inv-loop μ-loop
+ticket-at-requires c κs = search needs
 
 is-due-requires : tie.Need-is-due-requires Inv-loop μ-loop
 is-due-requires c κs = search needs
@@ -38,8 +32,9 @@ unfolding duePlace
 returns c =
     let loop = c .before .before .before .before in
     let args = loop .before .args in
-    sym (first-at (λ i. isDue (args .clock) (ticketAt (args .t1) i)) 95 _ (c .before .before .before .loop-test .taken) (loop .loop .inv .1)
-    (sym (c .before .is-due .ensures) ∙ c .if1 .taken))
+    let found = sym (c .before .is-due .ensures ∙ ap (isDue (args .clock)) (c .before .before .ticket-at .ensures)) in
+    sym (first-at (λ i. isDue (args .clock) (ticketAt (args .desk) i)) 95 _ (c .before .before .before .loop-test .taken) (loop .loop .inv .1)
+    (found ∙ c .if1 .taken))
 
 add-k : tie.Need-add-k Inv-loop μ-loop
 add-k c = search needs
@@ -48,11 +43,15 @@ loop-less : tie.Need-loop-less Inv-loop μ-loop
 loop-less c = search needs
 
 loop-again : tie.Need-loop-again Inv-loop μ-loop
-loop-again c = (omega arith, below-more _ _ (c .before .before .before .before .loop .inv .1) (sym (c .before .is-due .ensures) ∙ c .if1 .left))
+loop-again c =
+    let loop = c .before .before .before .before in
+    let args = loop .before .args in
+    let found = sym (c .before .is-due .ensures ∙ ap (isDue (args .clock)) (c .before .before .ticket-at .ensures)) in
+    (omega arith, below-more _ _ (loop .loop .inv .1) (found ∙ c .if1 .left))
 
 returns-2 : tie.Need-returns-2 Inv-loop μ-loop
 unfolding duePlace
-returns-2 c = end-none (λ i. isDue (c .before .before .args .clock) (ticketAt (c .before .before .args .t1) i)) _ (c .before .loop .inv .0) (c .loop-test .left) (c .before .loop .inv .1)
+returns-2 c = end-none (λ i. isDue (c .before .before .args .clock) (ticketAt (c .before .before .args .desk) i)) _ (c .before .loop .inv .0) (c .loop-test .left) (c .before .loop .inv .1)
 
 pub due-place-spec : {M : Type 1} → statement M
 due-place-spec =
@@ -61,9 +60,7 @@ due-place-spec =
     Inv-loop
     μ-loop
     loop-holds
-    cast-place
-    mul-is-due
-    element-copy-out-is-due
+    ticket-at-requires
     is-due-requires
     returns
     add-k

@@ -1,4 +1,4 @@
-use mathlib.Core.Path.{_≡_, sym, _∙_}
+use mathlib.Core.Path.{_≡_, sym, ap, _∙_}
 use mathlib.Core.Bool.{false}
 use Prim.Native.Nat.{ℕ, _-_, _≤_, _<_}
 use native.Mathlib.Omega.{arith}
@@ -13,22 +13,16 @@ use Rattle.desk.proofs.Calls.{end-none}
 use Rattle.desk.proofs.holder_place.Tie as tie
 
 abbrev Inv-loop : tie.InvT-loop
-Inv-loop job folder desk k₀ k = (k ≤ 95) × ((i : ℕ) → i < k → isBarred job folder (ticketAt desk i) ≡ false)
+Inv-loop desk job folder k₀ k = (k ≤ 95) × ((i : ℕ) → i < k → isBarred job folder (ticketAt desk i) ≡ false)
 
 abbrev μ-loop : tie.MeasureT-loop
-μ-loop job folder desk k₀ k = 95 - k
+μ-loop desk job folder k₀ k = 95 - k
 
 loop-holds : tie.Need-loop-holds Inv-loop μ-loop
 loop-holds c = (omega arith, λ i l. absurd (omega arith))
 
-cast-place : tie.Need-cast-place Inv-loop μ-loop
-cast-place c = search needs
-
-mul-bars : tie.Need-mul-bars Inv-loop μ-loop
-mul-bars c = search needs
-
-element-copy-out-bars : tie.Need-element-copy-out-bars Inv-loop μ-loop
-element-copy-out-bars c = search needs
+ticket-at-requires : tie.Need-ticket-at-requires Inv-loop μ-loop
+ticket-at-requires c κs = search needs
 
 bars-requires : tie.Need-bars-requires Inv-loop μ-loop
 bars-requires c κs = search needs
@@ -38,8 +32,9 @@ unfolding holderPlace
 returns c =
     let loop = c .before .before .before .before in
     let args = loop .before .args in
-    sym (first-at (λ i. isBarred (args .job) (args .folder) (ticketAt (args .t1) i)) 95 _ (c .before .before .before .loop-test .taken) (loop .loop .inv .1)
-    (sym (c .before .bars .ensures) ∙ c .if1 .taken))
+    let found = sym (c .before .bars .ensures ∙ ap (isBarred (args .job) (args .folder)) (c .before .before .ticket-at .ensures)) in
+    sym (first-at (λ i. isBarred (args .job) (args .folder) (ticketAt (args .desk) i)) 95 _ (c .before .before .before .loop-test .taken) (loop .loop .inv .1)
+    (found ∙ c .if1 .taken))
 
 add-k : tie.Need-add-k Inv-loop μ-loop
 add-k c = search needs
@@ -48,13 +43,17 @@ loop-less : tie.Need-loop-less Inv-loop μ-loop
 loop-less c = search needs
 
 loop-again : tie.Need-loop-again Inv-loop μ-loop
-loop-again c = (omega arith, below-more _ _ (c .before .before .before .before .loop .inv .1) (sym (c .before .bars .ensures) ∙ c .if1 .left))
+loop-again c =
+    let loop = c .before .before .before .before in
+    let args = loop .before .args in
+    let found = sym (c .before .bars .ensures ∙ ap (isBarred (args .job) (args .folder)) (c .before .before .ticket-at .ensures)) in
+    (omega arith, below-more _ _ (loop .loop .inv .1) (found ∙ c .if1 .left))
 
 returns-2 : tie.Need-returns-2 Inv-loop μ-loop
 unfolding holderPlace
 returns-2 c =
     let args = c .before .before .args in
-    end-none (λ i. isBarred (args .job) (args .folder) (ticketAt (args .t1) i)) _ (c .before .loop .inv .0) (c .loop-test .left) (c .before .loop .inv .1)
+    end-none (λ i. isBarred (args .job) (args .folder) (ticketAt (args .desk) i)) _ (c .before .loop .inv .0) (c .loop-test .left) (c .before .loop .inv .1)
 
 pub holder-place-spec : {M : Type 1} → statement M
 holder-place-spec =
@@ -63,9 +62,7 @@ holder-place-spec =
     Inv-loop
     μ-loop
     loop-holds
-    cast-place
-    mul-bars
-    element-copy-out-bars
+    ticket-at-requires
     bars-requires
     returns
     add-k

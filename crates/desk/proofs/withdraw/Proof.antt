@@ -1,5 +1,7 @@
-use mathlib.Core.Path.{refl}
+use mathlib.Core.Path.{refl, ap, _∙_}
+use Prim.Native.Nat.{_-_}
 use borrow.Author.Needs.{needs}
+use Rattle.desk.specs.Desk.{putAt}
 use Rattle.desk.proofs.withdraw.Statement.{statement}
 use Rattle.desk.proofs.withdraw.Tie as tie
 
@@ -16,7 +18,10 @@ put-at-requires : tie.Need-put-at-requires
 put-at-requires c κs = search needs
 
 returns : tie.Need-returns
-returns c = rw (← c .before .before .ticket-on .ensures, ← c .before .withdrawn-at .ensures) (refl, c .put-at .ensures)
+returns c =
+    let s = c .before .before .before in
+    rw (← c .before .before .ticket-on .ensures)
+    (refl, c .put-at .ensures ∙ ap (putAt (s .args .desk) (s .args .address - 161)) (c .before .withdrawn-at .ensures))
 
 pub withdraw-spec : {M : Type 1} → statement M
 withdraw-spec = tie.close (tie.spec ticket-on-requires sub-put-at withdrawn-at-requires put-at-requires returns)

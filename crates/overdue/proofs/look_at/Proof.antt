@@ -5,17 +5,14 @@ use borrow.Author.Needs.{needs}
 use Rattle.overdue.proofs.look_at.Statement.{statement}
 use Rattle.overdue.proofs.look_at.Tie as tie
 
-mul-ticket : tie.Need-mul-ticket
-mul-ticket c = search needs
+add-address : tie.Need-add-address
+add-address c = search needs
 
-element-copy-out-ticket : tie.Need-element-copy-out-ticket
-element-copy-out-ticket c = search needs
+ticket-on-requires : tie.Need-ticket-on-requires
+ticket-on-requires c κs = search needs
 
 is-due-requires : tie.Need-is-due-requires
 is-due-requires c κs = search needs
-
-add-address : tie.Need-add-address
-add-address c = search needs
 
 cancel-requires : tie.Need-cancel-requires
 cancel-requires c κs = search needs
@@ -50,8 +47,8 @@ mul-list-3 c = search needs
 slice-write-list-3 : tie.Need-slice-write-list-3
 slice-write-list-3 c = rw (length-set _ _ _, length-set _ _ _) (omega (arith, c .before .before .before .before .before .before .before .before .pre .1))
 
-add-t19 : tie.Need-add-t19
-add-t19 c = search needs
+add-t13 : tie.Need-add-t13
+add-t13 c = search needs
 
 same-length : tie.Need-same-length
 same-length c = search needs
@@ -60,20 +57,19 @@ returns : tie.Need-returns
 returns c =
     let due = c .before .before .before .before .before in
     let s = due .before .before .before .before in
-    looked-due (s .args .before) (s .args .place) (s .args .clock) (s .args .list .now) _ _ (due .is-due .ensures) (c .before .before .before .before .if1 .taken)
-    (omega (arith, s .pre .1)) (c .before .before .before .cancel .ensures)
+    looked-due (s .args .before) (s .args .place) (s .args .clock) (s .args .list .now) _ _ (due .before .ticket-on .ensures) (due .is-due .ensures) _
+    (c .before .before .before .before .if1 .taken) (omega (arith, s .pre .1)) (c .before .before .before .cancel .ensures)
 
 returns-2 : tie.Need-returns-2
-returns-2 c = looked-not _ _ _ _ _ (c .before .is-due .ensures) (c .if1 .left)
+returns-2 c = looked-not _ _ _ _ _ _ (c .before .before .ticket-on .ensures) (c .before .is-due .ensures) (c .if1 .left)
 
 pub look-at-spec : {M : Type 1} → statement M
 look-at-spec =
     tie.close
     (tie.spec
-    mul-ticket
-    element-copy-out-ticket
-    is-due-requires
     add-address
+    ticket-on-requires
+    is-due-requires
     cancel-requires
     mul-entry
     mul-list
@@ -85,7 +81,7 @@ look-at-spec =
     add-list-2
     mul-list-3
     slice-write-list-3
-    add-t19
+    add-t13
     same-length
     returns
     returns-2)

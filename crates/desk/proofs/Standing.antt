@@ -1,0 +1,136 @@
+-- What stands at each place, by the marks: 02, #112.
+-- Assumes nothing.
+use mathlib.Core.Path.{_≡_, refl, sym, ap, ap₂, _∙_}
+use mathlib.Core.Bool.{Bool, true, false, not, _&&_}
+use mathlib.Core.List.{List, [], _∷_}
+use mathlib.Core.Logic.{_≢_}
+use Prim.Native.Nat.{ℕ, zero, suc, _+_, _-_, _≤_, _<_}
+use native.Mathlib.Nat.{add-zero, zero-add, add-suc, suc-add}
+use native.Mathlib.Decide.{decLt}
+use native.Mathlib.Omega.{arith}
+use lib.ListN.{length, getD, set}
+use Rattle.marks.proofs.Laws.{changed-mark, other-mark, cleared-mark, run-marked, run-none}
+use Rattle.marks.specs.Marks.{isMarked, withMark, runFrom}
+use Rattle.marks.specs.declared.Marks.{Marks}
+use Rattle.ticket.specs.Rest.{isResting, isFree}
+use Rattle.ticket.specs.Ticket.{noTicket}
+use Rattle.ticket.specs.declared.Ticket.{Ticket}
+use Rattle.desk.specs.Desk.{liveAs, standingFrom, ticketAt}
+use Rattle.desk.specs.Open.{placeFrom, PassesBy}
+use Rattle.desk.specs.declared.Desk.{Desk}
+
+pub length-standing : (k : ℕ) (marks : Marks) (tickets : List Ticket) → length (standingFrom k marks tickets) ≡ length tickets
+unfolding standingFrom
+length-standing k marks [] = refl
+length-standing k marks (t ∷ tickets) = ap suc (length-standing (suc k) marks tickets)
+
+-- what stands at a place is its ticket, open where the place is marked
+standing-from : (k : ℕ) (marks : Marks) (tickets : List Ticket) (i : ℕ) → i < length tickets
+    → getD (standingFrom k marks tickets) i noTicket ≡ liveAs (isMarked marks (k + i)) (getD tickets i noTicket)
+unfolding standingFrom
+standing-from k marks [] i h = absurd (omega arith)
+standing-from k marks (t ∷ tickets) zero h = rw (add-zero k)
+standing-from k marks (t ∷ tickets) (suc i) h =
+    standing-from (suc k) marks tickets i (omega arith)
+    ∙ ap (λ (j : ℕ). liveAs (isMarked marks j) (getD tickets i noTicket)) (suc-add k i ∙ sym (add-suc k i))
+
+pub standing-at : (marks : Marks) (tickets : List Ticket) (place : ℕ) → place < length tickets
+    → getD (standingFrom 0 marks tickets) place noTicket ≡ liveAs (isMarked marks place) (getD tickets place noTicket)
+standing-at marks tickets place h =
+    standing-from 0 marks tickets place h ∙ ap (λ (j : ℕ). liveAs (isMarked marks j) (getD tickets place noTicket)) (zero-add place)
+
+-- only the marks of its places are looked at
+standing-alike : (k : ℕ) (a b : Marks) (tickets : List Ticket) → ((i : ℕ) → i < length tickets → isMarked a (k + i) ≡ isMarked b (k + i))
+    → standingFrom k a tickets ≡ standingFrom k b tickets
+unfolding standingFrom
+standing-alike k a b [] same = refl
+standing-alike k a b (t ∷ tickets) same =
+    ap₂ (λ (m : Bool) (rest : List Ticket). liveAs m t ∷ rest) (rw (add-zero k) at (same 0 (omega arith)))
+    (standing-alike (suc k) a b tickets (λ i h. rw (suc-add k i ∙ sym (add-suc k i)) (same (suc i) (omega arith))))
+
+-- another ticket at a place, and another mark for it: every other place is as before
+standing-set : (k : ℕ) (a b : Marks) (tickets : List Ticket) (i : ℕ) (t : Ticket) → ((j : ℕ) → j ≢ k + i → isMarked b j ≡ isMarked a j)
+    → standingFrom k b (set tickets i t) ≡ set (standingFrom k a tickets) i (liveAs (isMarked b (k + i)) t)
+unfolding standingFrom
+standing-set k a b [] i t same = refl
+standing-set k a b (x ∷ tickets) zero t same =
+    ap₂ (λ (m : Bool) (rest : List Ticket). liveAs m t ∷ rest) (ap (isMarked b) (sym (add-zero k)))
+    (standing-alike (suc k) b a tickets (λ j h. same (suc k + j) (λ e. omega (arith, e))))
+standing-set k a b (x ∷ tickets) (suc i) t same =
+    ap₂ (λ (m : Bool) (rest : List Ticket). liveAs m x ∷ rest) (same k (λ e. omega (arith, e)))
+    (standing-set (suc k) a b tickets i t (λ j n. same j (λ e. n (omega (arith, e))))
+    ∙ ap (λ (j : ℕ). set (standingFrom (suc k) a tickets) i (liveAs (isMarked b j) t)) (suc-add k i ∙ sym (add-suc k i)))
+
+pub standing-with : (marks : Marks) (tickets : List Ticket) (place : ℕ) (t : Ticket)
+    → standingFrom 0 (withMark marks place (t .live)) (set tickets place t)
+    ≡ set (standingFrom 0 marks tickets) place (liveAs (isMarked (withMark marks place (t .live)) place) t)
+standing-with marks tickets place t =
+    standing-set 0 marks (withMark marks place (t .live)) tickets place t
+    (λ j n. other-mark marks place (t .live) j (λ e. n (e ∙ sym (zero-add place))))
+    ∙ ap (λ (j : ℕ). set (standingFrom 0 marks tickets) place (liveAs (isMarked (withMark marks place (t .live)) j) t)) (zero-add place)
+
+-- "set while it holds a ticket": what is put at a place stands there. Places from 128 on have no mark, so nothing is open there
+pub standing-put : (marks : Marks) (tickets : List Ticket) (place : ℕ) (t : Ticket) → (t .live ≡ true → place < 128)
+    → standingFrom 0 (withMark marks place (t .live)) (set tickets place t) ≡ set (standingFrom 0 marks tickets) place t
+standing-put marks tickets place t near =
+    standing-with marks tickets place t ∙ ap (λ (m : Bool). set (standingFrom 0 marks tickets) place (liveAs m t)) (here (t .live) near)
+  where
+    here : (live : Bool) → (live ≡ true → place < 128) → isMarked (withMark marks place live) place ≡ live
+    here true h = changed-mark marks place true (h refl)
+    here false h = cleared-mark marks place
+
+-- the tickets alone say it where a place is marked exactly while it holds one
+standing-agreed : (k : ℕ) (marks : Marks) (tickets : List Ticket) → ((i : ℕ) → i < length tickets → isMarked marks (k + i) ≡ getD tickets i noTicket .live)
+    → standingFrom k marks tickets ≡ tickets
+unfolding standingFrom
+standing-agreed k marks [] same = refl
+standing-agreed k marks (t ∷ tickets) same =
+    ap₂ (λ (m : Bool) (rest : List Ticket). liveAs m t ∷ rest) (rw (add-zero k) at (same 0 (omega arith)))
+    (standing-agreed (suc k) marks tickets (λ i h. rw (suc-add k i ∙ sym (add-suc k i)) (same (suc i) (omega arith))))
+
+pub standing-alone : (marks : Marks) (tickets : List Ticket) → ((place : ℕ) → place < length tickets → isMarked marks place ≡ getD tickets place noTicket .live)
+    → standingFrom 0 marks tickets ≡ tickets
+standing-alone marks tickets same = standing-agreed 0 marks tickets (λ i h. rw (zero-add i) (same i h))
+
+-- ---- how many places a search passes by at once: a run of marks, or one that rests
+
+module _ (desk : Desk) (place clock : ℕ) (places : length (desk .tickets) ≡ 95) (h : place < 95) where
+  free-by : (k : ℕ) → place + k < 95
+      → isFree clock (ticketAt desk (place + k)) ≡ (not (isMarked (desk .marks) (place + k)) && not (isResting clock (getD (desk .tickets) (place + k) noTicket)))
+  free-by k l = ap (isFree clock) (standing-at (desk .marks) (desk .tickets) (place + k) (omega arith))
+
+  here : place + 0 ≡ place
+  here = add-zero place
+
+  pub passed-marked : (n : ℕ) → 0 < n → n ≤ runFrom (desk .marks) place → place + n ≤ 95 → PassesBy desk place clock n
+  passed-marked n some run within =
+      (within, λ none. absurd (omega arith), λ k l. free-by k (omega arith) ∙ rw (run-marked (desk .marks) place k (omega arith)))
+
+  pub passed-resting : isResting clock (getD (desk .tickets) place noTicket) ≡ true → PassesBy desk place clock 1
+  passed-resting rests = (omega arith, λ none. absurd (omega arith), only)
+    where
+      shut : (m : Bool) → (m && not true) ≡ false
+      shut true = refl
+      shut false = refl
+
+      only : (k : ℕ) → k < 1 → isFree clock (ticketAt desk (place + k)) ≡ false
+      only zero l = free-by 0 (omega arith) ∙ rw (here, rests) (shut (not (isMarked (desk .marks) place)))
+      only (suc k) l = absurd (omega arith)
+
+  pub passed-none : runFrom (desk .marks) place ≡ 0 → isResting clock (getD (desk .tickets) place noTicket) ≡ false → PassesBy desk place clock 0
+  passed-none run rested = (
+    omega arith,
+    λ none. ap (λ (p : ℕ). isFree clock (ticketAt desk p)) (sym here) ∙ free-by 0 (omega arith) ∙ rw (here, run-none (desk .marks) place run, rested),
+    λ k l. absurd (omega arith),
+  )
+
+-- so the search from the turn goes on
+pub passed-more : (desk : Desk) (clock k n : ℕ) → ((i : ℕ) → i < k → isFree clock (ticketAt desk (placeFrom (desk .turn) i)) ≡ false)
+    → PassesBy desk (placeFrom (desk .turn) k) clock n
+    → (i : ℕ) → i < k + n → isFree clock (ticketAt desk (placeFrom (desk .turn) i)) ≡ false
+passed-more desk clock k n before passes i l = elim (decLt i k) [
+  | yes h ↦ before i h
+  | no h ↦
+      let there : placeFrom (desk .turn) k + (i - k) ≡ placeFrom (desk .turn) i = omega (arith, passes .0) in
+      ap (λ (p : ℕ). isFree clock (ticketAt desk p)) (sym there) ∙ passes .2 (i - k) (omega arith)
+]
