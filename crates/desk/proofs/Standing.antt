@@ -3,7 +3,7 @@
 use mathlib.Core.Path.{_≡_, refl, sym, ap, ap₂, _∙_}
 use mathlib.Core.Bool.{Bool, true, false, not, _&&_}
 use mathlib.Core.List.{List, [], _∷_}
-use mathlib.Core.Logic.{_≢_}
+use mathlib.Core.Logic.{_≢_, inl, inr, ⊎-elim}
 use Prim.Native.Nat.{ℕ, zero, suc, _+_, _-_, _≤_, _<_}
 use native.Mathlib.Nat.{add-zero, zero-add, add-suc, suc-add}
 use native.Mathlib.Decide.{decLt}
@@ -38,6 +38,12 @@ pub standing-at : (marks : Marks) (tickets : List Ticket) (place : ℕ) → plac
     → getD (standingFrom 0 marks tickets) place noTicket ≡ liveAs (isMarked marks place) (getD tickets place noTicket)
 standing-at marks tickets place h =
     standing-from 0 marks tickets place h ∙ ap (λ (j : ℕ). liveAs (isMarked marks j) (getD tickets place noTicket)) (zero-add place)
+
+-- what is told of a ticket that was taken by its mark is told of what stands there
+pub told-standing : (desk : Desk) (tells : Ticket → Bool) (place : ℕ) (ticket : Ticket) (r : Bool) → length (desk .tickets) ≡ 95 → place < 95
+    → ticket ≡ liveAs (isMarked (desk .marks) place) (getD (desk .tickets) place noTicket) → r ≡ tells ticket → tells (ticketAt desk place) ≡ r
+told-standing desk tells place ticket r places h is told =
+    ap tells (standing-at (desk .marks) (desk .tickets) place (omega arith) ∙ sym is) ∙ sym told
 
 -- only the marks of its places are looked at
 standing-alike : (k : ℕ) (a b : Marks) (tickets : List Ticket) → ((i : ℕ) → i < length tickets → isMarked a (k + i) ≡ isMarked b (k + i))
@@ -94,43 +100,47 @@ standing-alone marks tickets same = standing-agreed 0 marks tickets (λ i h. rw 
 
 -- ---- how many places a search passes by at once: a run of marks, or one that rests
 
-module _ (desk : Desk) (place clock : ℕ) (places : length (desk .tickets) ≡ 95) (h : place < 95) where
-  free-by : (k : ℕ) → place + k < 95
-      → isFree clock (ticketAt desk (place + k)) ≡ (not (isMarked (desk .marks) (place + k)) && not (isResting clock (getD (desk .tickets) (place + k) noTicket)))
-  free-by k l = ap (isFree clock) (standing-at (desk .marks) (desk .tickets) (place + k) (omega arith))
+module _ (marks : Marks) (ticket : Ticket) (place clock : ℕ) where
+  pub passed-marked : (n : ℕ) → 0 < n → n ≤ runFrom marks place → place + n ≤ 95 → PassesBy marks ticket place clock n
+  passed-marked n some run within = (within, λ none. absurd (omega arith), λ k l. inl (run-marked marks place k (omega arith)))
 
-  here : place + 0 ≡ place
-  here = add-zero place
+  pub passed-resting : place < 95 → isResting clock ticket ≡ true → PassesBy marks ticket place clock 1
+  passed-resting h rests = (omega arith, λ none. absurd (omega arith), λ k l. inr (omega arith, rests))
 
-  pub passed-marked : (n : ℕ) → 0 < n → n ≤ runFrom (desk .marks) place → place + n ≤ 95 → PassesBy desk place clock n
-  passed-marked n some run within =
-      (within, λ none. absurd (omega arith), λ k l. free-by k (omega arith) ∙ rw (run-marked (desk .marks) place k (omega arith)))
+  pub passed-none : place < 95 → runFrom marks place ≡ 0 → isResting clock ticket ≡ false → PassesBy marks ticket place clock 0
+  passed-none h run rested = (omega arith, λ none. (run-none marks place run, rested), λ k l. absurd (omega arith))
 
-  pub passed-resting : isResting clock (getD (desk .tickets) place noTicket) ≡ true → PassesBy desk place clock 1
-  passed-resting rests = (omega arith, λ none. absurd (omega arith), only)
-    where
-      shut : (m : Bool) → (m && not true) ≡ false
-      shut true = refl
-      shut false = refl
+-- of a desk's places
+module _ (desk : Desk) (clock : ℕ) (places : length (desk .tickets) ≡ 95) where
+  free-by : (place : ℕ) → place < 95
+      → isFree clock (ticketAt desk place) ≡ (not (isMarked (desk .marks) place) && not (isResting clock (getD (desk .tickets) place noTicket)))
+  free-by place h = ap (isFree clock) (standing-at (desk .marks) (desk .tickets) place (omega arith))
 
-      only : (k : ℕ) → k < 1 → isFree clock (ticketAt desk (place + k)) ≡ false
-      only zero l = free-by 0 (omega arith) ∙ rw (here, rests) (shut (not (isMarked (desk .marks) place)))
-      only (suc k) l = absurd (omega arith)
+  shut : (m : Bool) → (m && not true) ≡ false
+  shut true = refl
+  shut false = refl
 
-  pub passed-none : runFrom (desk .marks) place ≡ 0 → isResting clock (getD (desk .tickets) place noTicket) ≡ false → PassesBy desk place clock 0
-  passed-none run rested = (
-    omega arith,
-    λ none. ap (λ (p : ℕ). isFree clock (ticketAt desk p)) (sym here) ∙ free-by 0 (omega arith) ∙ rw (here, run-none (desk .marks) place run, rested),
-    λ k l. absurd (omega arith),
-  )
+  module _ (k n : ℕ)
+      (passes : PassesBy (desk .marks) (getD (desk .tickets) (placeFrom (desk .turn) k) noTicket) (placeFrom (desk .turn) k) clock n) where
+    -- the search has come to a free place
+    pub passed-free : n ≡ 0 → isFree clock (ticketAt desk (placeFrom (desk .turn) k)) ≡ true
+    passed-free none = free-by (placeFrom (desk .turn) k) (omega arith) ∙ rw (passes .1 none .0, passes .1 none .1)
 
--- so the search from the turn goes on
-pub passed-more : (desk : Desk) (clock k n : ℕ) → ((i : ℕ) → i < k → isFree clock (ticketAt desk (placeFrom (desk .turn) i)) ≡ false)
-    → PassesBy desk (placeFrom (desk .turn) k) clock n
-    → (i : ℕ) → i < k + n → isFree clock (ticketAt desk (placeFrom (desk .turn) i)) ≡ false
-passed-more desk clock k n before passes i l = elim (decLt i k) [
-  | yes h ↦ before i h
-  | no h ↦
-      let there : placeFrom (desk .turn) k + (i - k) ≡ placeFrom (desk .turn) i = omega (arith, passes .0) in
-      ap (λ (p : ℕ). isFree clock (ticketAt desk p)) (sym there) ∙ passes .2 (i - k) (omega arith)
-]
+    taken : (i : ℕ) → i < n → isFree clock (ticketAt desk (placeFrom (desk .turn) k + i)) ≡ false
+    taken i l =
+        free-by (placeFrom (desk .turn) k + i) (omega (arith, passes .0))
+        ∙ ⊎-elim (λ marked. rw marked)
+        (λ rests.
+        let here : placeFrom (desk .turn) k + i ≡ placeFrom (desk .turn) k = omega (arith, rests .0) in
+        rw (here, rests .1) (shut (not (isMarked (desk .marks) (placeFrom (desk .turn) k)))))
+        (passes .2 i l)
+
+    -- or it goes on
+    pub passed-more : ((i : ℕ) → i < k → isFree clock (ticketAt desk (placeFrom (desk .turn) i)) ≡ false)
+        → (i : ℕ) → i < k + n → isFree clock (ticketAt desk (placeFrom (desk .turn) i)) ≡ false
+    passed-more before i l = elim (decLt i k) [
+      | yes h ↦ before i h
+      | no h ↦
+          let there : placeFrom (desk .turn) k + (i - k) ≡ placeFrom (desk .turn) i = omega (arith, passes .0) in
+          ap (λ (p : ℕ). isFree clock (ticketAt desk p)) (sym there) ∙ taken (i - k) (omega arith)
+    ]

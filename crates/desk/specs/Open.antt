@@ -10,11 +10,13 @@ use lib.Dec.{leb, ltb}
 use lib.ListN.{length}
 use Rattle.lent.specs.Lent.{over}
 use Rattle.rows.specs.Rows.{Row, row, Test, test, firstOf, orLater, passedUp, raised}
+use Rattle.marks.specs.Marks.{isMarked}
+use Rattle.marks.specs.declared.Marks.{Marks}
 use Rattle.request.specs.Request.{askRows, askRefusal}
 use Rattle.request.specs.declared.Request.{Request}
 use Rattle.first.specs.First.{firstPlace}
 use Rattle.telegram.specs.Write.{telegramFor}
-use Rattle.ticket.specs.Rest.{Rests, isFree}
+use Rattle.ticket.specs.Rest.{Rests, isResting, isFree}
 use Rattle.ticket.specs.Ticket.{Open, newTicket}
 use Rattle.ticket.specs.declared.Ticket.{Ticket}
 use Rattle.desk.specs.Desk.{standing, placeIn, ticketAt, putAt, faultNumber}
@@ -134,12 +136,13 @@ abbrev pub Opens : Desk → Request → List ℕ → ℕ → List ℕ → AfterO
 Opens desk asked bytes clock room r room′ =
     OpensAt (openRefusal desk asked bytes clock (length room)) desk (givenPlace desk clock) (distanceOf desk clock) asked bytes clock room r room′
 
--- `passed_by`: so many places from one on are not free at a clock, none where it is
-abbrev pub PassesBy : Desk → ℕ → ℕ → ℕ → Type 0
-PassesBy desk place clock r =
+-- `passed_by`: so many places from one on, where this ticket is, are not free at a clock: each is marked, or it is this one and rests. None
+-- where it is free
+abbrev pub PassesBy : Marks → Ticket → ℕ → ℕ → ℕ → Type 0
+PassesBy marks ticket place clock r =
     (place + r ≤ 95)
-    × (r ≡ 0 → isFree clock (ticketAt desk place) ≡ true)
-    × ((k : ℕ) → k < r → isFree clock (ticketAt desk (place + k)) ≡ false)
+    × (r ≡ 0 → (isMarked marks place ≡ false) × (isResting clock ticket ≡ false))
+    × ((k : ℕ) → k < r → (isMarked marks (place + k) ≡ true) ⊎ ((k ≡ 0) × (isResting clock ticket ≡ true)))
 
 -- `open_at`: rows 15 and 16 and the opening, at any distance from the turn
 abbrev pub PlacesAt : Desk → ℕ → Request → List ℕ → ℕ → List ℕ → AfterOpen → List ℕ → Type 0

@@ -4,7 +4,8 @@ use marks::Marks;
 pub use request::Request;
 use ticket::NO_TICKET;
 pub use ticket::Ticket;
-ghost use Rattle.desk.specs.Desk.{Fresh, Looks, Numbers, Places, Stands, ticketAt, putAt};
+ghost use Rattle.desk.specs.Desk.{Fresh, Looks, Numbers, Places, Stands, liveAs, putAt};
+ghost use Rattle.marks.specs.Marks.{isMarked};
 ghost use Rattle.desk.specs.Folder.{holderPlace, isFolderHeld};
 ghost use Rattle.desk.specs.Open.{Opens, PassesBy, PlacesAt, distanceOf, withTicket};
 ghost use Rattle.desk.specs.Reply.{Replies, answeredOn};
@@ -319,25 +320,38 @@ fn withdrawn_at(clock: u32) -> Ticket
     kept
 }
 
+// What follows alone reads or stores in the array of tickets, and in the marks beside it.
+
 // What stands on an address, as a ticket; under 161 there is none.
 pub fn ticket_on(desk: Desk, address: u8) -> Ticket
     ensures { λ r. ⌜ Stands desk address r ⌝ }
 {
     if 161 <= address {
-        return ticket_at(desk, address - 161);
+        let at = (address - 161) as usize;
+        return as_marked(desk.tickets[at], desk.marks, address - 161);
     }
     NO_TICKET
+}
+
+// What stands at a place: its ticket, which is open there while the place is marked.
+fn as_marked(ticket: Ticket, marks: Marks, place: u8) -> Ticket
+    ensures { λ r. ⌜ r ≡ liveAs (isMarked marks place) ticket ⌝ }
+{
+    let mut shown = ticket;
+    shown.live = marks::is_marked(marks, place);
+    shown
 }
 
 // How far from the turn the first place is that is free at the clock; 95 where there is none.
 fn free_distance(desk: Desk, clock: u32) -> u8
     ensures { λ r. ⌜ r ≡ distanceOf desk clock ⌝ }
 {
+    let marks = desk.marks;
     let turn = desk.turn as usize;
     let mut k: u8 = 0;
     while k < 95 {
-        let place = ((turn + k as usize) % 95) as u8;
-        let passed = passed_by(desk, place, clock);
+        let at = (turn + k as usize) % 95;
+        let passed = passed_by(marks, desk.tickets[at], at as u8, clock);
         if passed == 0 {
             return k;
         }
@@ -347,12 +361,12 @@ fn free_distance(desk: Desk, clock: u32) -> u8
 }
 
 // How many places from this one on are not free, as far as is seen at once; 0 where it is free. A run
-// of marks is passed by in one step, and a place that is not marked by its rest alone.
-fn passed_by(desk: Desk, place: u8, clock: u32) -> u8
+// of marks is passed by in one step; of a place that is not marked the rest alone is looked at.
+fn passed_by(marks: Marks, ticket: Ticket, place: u8, clock: u32) -> u8
     requires { ⌜ place < 95 ⌝ }
-    ensures { λ r. ⌜ PassesBy desk place clock r ⌝ }
+    ensures { λ r. ⌜ PassesBy marks ticket place clock r ⌝ }
 {
-    let run = marks::run(desk.marks, place);
+    let run = marks::run(marks, place);
     let left = 95 - place;
     if left < run {
         return left;
@@ -360,8 +374,7 @@ fn passed_by(desk: Desk, place: u8, clock: u32) -> u8
     if 0 < run {
         return run;
     }
-    let at = place as usize;
-    if ticket::is_resting(desk.tickets[at], clock) {
+    if ticket::is_resting(ticket, clock) {
         return 1;
     }
     0
@@ -371,9 +384,11 @@ fn passed_by(desk: Desk, place: u8, clock: u32) -> u8
 fn due_place(desk: Desk, clock: u32) -> u8
     ensures { λ r. ⌜ r ≡ duePlace desk clock ⌝ }
 {
+    let marks = desk.marks;
     let mut k: u8 = 0;
     while k < 95 {
-        if ticket::is_due(ticket_at(desk, k), clock) {
+        let at = k as usize;
+        if ticket::is_due(as_marked(desk.tickets[at], marks, k), clock) {
             return k;
         }
         k += 1;
@@ -385,9 +400,11 @@ fn due_place(desk: Desk, clock: u32) -> u8
 fn holder_place(desk: Desk, job: u32, folder: u32) -> u8
     ensures { λ r. ⌜ r ≡ holderPlace desk job folder ⌝ }
 {
+    let marks = desk.marks;
     let mut k: u8 = 0;
     while k < 95 {
-        if ticket::bars(ticket_at(desk, k), job, folder) {
+        let at = k as usize;
+        if ticket::bars(as_marked(desk.tickets[at], marks, k), job, folder) {
             return k;
         }
         k += 1;
@@ -395,27 +412,20 @@ fn holder_place(desk: Desk, job: u32, folder: u32) -> u8
     k
 }
 
-// What follows alone reads or stores whole tickets in the array, and the marks beside them.
-
-// What stands at a place: a ticket is open there while the place is marked.
-fn ticket_at(desk: Desk, place: u8) -> Ticket
-    requires { ⌜ place < 95 ⌝ }
-    ensures { λ r. ⌜ r ≡ ticketAt desk place ⌝ }
-{
-    let at = place as usize;
-    let mut ticket = desk.tickets[at];
-    ticket.live = marks::is_marked(desk.marks, place);
-    ticket
-}
-
 // The ticket stands at the place, and the turn moves to the place after it.
 fn with_ticket(desk: Desk, place: u8, ticket: Ticket) -> Desk
     requires { ⌜ place < 95 ⌝ }
     ensures { λ r. ⌜ r ≡ withTicket desk place ticket ⌝ }
 {
-    let mut next = put_at(desk, place, ticket);
-    next.turn = (place + 1) % 95;
-    next
+    let mut tickets = desk.tickets;
+    let given = place as usize;
+    tickets[given] = ticket;
+    let marks = marks::with_mark(desk.marks, place, ticket.live);
+    Desk {
+        turn: (place + 1) % 95,
+        tickets,
+        marks,
+    }
 }
 
 // Something else stands at the place. The turn stays.
@@ -426,10 +436,10 @@ fn put_at(desk: Desk, place: u8, ticket: Ticket) -> Desk
     let mut tickets = desk.tickets;
     let at = place as usize;
     tickets[at] = ticket;
-    let marks = marks::with_mark(desk.marks, place, ticket.live);
+    let changed = marks::with_mark(desk.marks, place, ticket.live);
     Desk {
         turn: desk.turn,
         tickets,
-        marks,
+        marks: changed,
     }
 }

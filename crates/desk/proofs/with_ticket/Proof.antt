@@ -2,14 +2,20 @@ use borrow.Author.Needs.{needs}
 use Rattle.desk.proofs.with_ticket.Statement.{statement}
 use Rattle.desk.proofs.with_ticket.Tie as tie
 
-put-at-requires : tie.Need-put-at-requires
-put-at-requires c κs = search needs
+mul-tickets : tie.Need-mul-tickets
+mul-tickets c = search needs
 
-add-next : tie.Need-add-next
-add-next c = search needs
+array-set-from-tickets : tie.Need-array-set-from-tickets
+array-set-from-tickets c = search needs
+
+with-mark-requires : tie.Need-with-mark-requires
+with-mark-requires c κs = search needs
+
+add-t10 : tie.Need-add-t10
+add-t10 c = search needs
 
 returns : tie.Need-returns
-returns c = rw (c .put-at .ensures)
+returns c = rw (c .with-mark .ensures)
 
 pub with-ticket-spec : {M : Type 1} → statement M
-with-ticket-spec = tie.close (tie.spec put-at-requires add-next returns)
+with-ticket-spec = tie.close (tie.spec mul-tickets array-set-from-tickets with-mark-requires add-t10 returns)
