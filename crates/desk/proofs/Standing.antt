@@ -8,15 +8,17 @@ use Prim.Native.Nat.{ℕ, zero, suc, _+_, _-_, _≤_, _<_}
 use native.Mathlib.Nat.{add-zero, zero-add, add-suc, suc-add}
 use native.Mathlib.Decide.{decLt}
 use native.Mathlib.Omega.{arith}
+use borrow.Author.Tests.{le-leb, lt-leb}
 use lib.ListN.{length, getD, set}
+use Rattle.first.proofs.Laws.{first-same}
 use Rattle.marks.proofs.Laws.{changed-mark, other-mark, cleared-mark, run-marked, run-none}
 use Rattle.marks.specs.Marks.{isMarked, withMark, runFrom}
 use Rattle.marks.specs.declared.Marks.{Marks}
 use Rattle.ticket.specs.Rest.{isResting, isFree}
 use Rattle.ticket.specs.Ticket.{noTicket}
 use Rattle.ticket.specs.declared.Ticket.{Ticket}
-use Rattle.desk.specs.Desk.{liveAs, standingFrom, ticketAt}
-use Rattle.desk.specs.Open.{placeFrom, PassesBy}
+use Rattle.desk.specs.Desk.{liveAs, standingFrom, ticketAt, ticketOn, Stands}
+use Rattle.desk.specs.Open.{placeFrom, distanceOf, PassesBy}
 use Rattle.desk.specs.declared.Desk.{Desk}
 
 pub length-standing : (k : ℕ) (marks : Marks) (tickets : List Ticket) → length (standingFrom k marks tickets) ≡ length tickets
@@ -144,3 +146,41 @@ module _ (desk : Desk) (clock : ℕ) (places : length (desk .tickets) ≡ 95) wh
           let there : placeFrom (desk .turn) k + (i - k) ≡ placeFrom (desk .turn) i = omega (arith, passes .0) in
           ap (λ (p : ℕ). isFree clock (ticketAt desk p)) (sym there) ∙ taken (i - k) (omega arith)
     ]
+
+-- ---- what stands on an address, said out, on any desk: its ticket, open exactly where its place is marked; all else of it as it is kept
+
+pub stands-plainly : (desk : Desk) (place : ℕ) (r : Ticket) → place < length (desk .tickets) → Stands desk (161 + place) r
+    → (r .live ≡ isMarked (desk .marks) place)
+    × (r .asked ≡ getD (desk .tickets) place noTicket .asked)
+    × (r .opened ≡ getD (desk .tickets) place noTicket .opened)
+    × (r .withdrawn ≡ getD (desk .tickets) place noTicket .withdrawn)
+    × (r .closed ≡ getD (desk .tickets) place noTicket .closed)
+stands-plainly desk place r h s =
+    let p : 161 + place - 161 ≡ place = omega arith in
+    let on : ticketOn desk (161 + place) ≡ ticketAt desk place = rw (le-leb 161 (161 + place) (omega arith), p) in
+    let e : r ≡ liveAs (isMarked (desk .marks) place) (getD (desk .tickets) place noTicket) = s ∙ on ∙ standing-at (desk .marks) (desk .tickets) place h in
+    (ap (λ (t : Ticket). t .live) e, ap (λ (t : Ticket). t .asked) e, ap (λ (t : Ticket). t .opened) e, ap (λ (t : Ticket). t .withdrawn) e, ap (λ (t : Ticket). t .closed) e)
+
+pub stands-none : (desk : Desk) (address : ℕ) (r : Ticket) → address < 161 → Stands desk address r → r ≡ noTicket
+stands-none desk address r h s = s ∙ rw (lt-leb 161 address h)
+
+-- and it is what every call goes by
+pub stands-is : (desk : Desk) (address : ℕ) (r : Ticket) → Stands desk address r → r ≡ ticketOn desk address
+stands-is desk address r s = s
+
+-- "and choose from those and the rest times": desks with the same turn, the same marks and the same rests at the clock give the same place, whatever
+-- else their tickets hold
+pub chosen-by-marks : (a b : Desk) (clock : ℕ) → length (a .tickets) ≡ 95 → length (b .tickets) ≡ 95 → a .turn ≡ b .turn
+    → ((place : ℕ) → place < 95 → isMarked (a .marks) place ≡ isMarked (b .marks) place)
+    → ((place : ℕ) → place < 95 → isResting clock (getD (a .tickets) place noTicket) ≡ isResting clock (getD (b .tickets) place noTicket))
+    → distanceOf a clock ≡ distanceOf b clock
+unfolding distanceOf
+chosen-by-marks a b clock placesA placesB turns marks rests =
+    first-same (λ k. isFree clock (ticketAt a (placeFrom (a .turn) k))) (λ k. isFree clock (ticketAt b (placeFrom (b .turn) k))) 95
+    (λ k h. rw (← turns) (one (placeFrom (a .turn) k) (omega arith)))
+  where
+    one : (place : ℕ) → place < 95 → isFree clock (ticketAt a place) ≡ isFree clock (ticketAt b place)
+    one place h =
+        ap (isFree clock) (standing-at (a .marks) (a .tickets) place (omega (arith, placesA)))
+        ∙ ap₂ (λ (m r : Bool). not m && not r) (marks place h) (rests place h)
+        ∙ sym (ap (isFree clock) (standing-at (b .marks) (b .tickets) place (omega (arith, placesB))))

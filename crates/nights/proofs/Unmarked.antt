@@ -5,7 +5,7 @@ use mathlib.Core.Bool.{Bool, true, false, true≢false}
 use mathlib.Core.List.{List, [], _∷_}
 use mathlib.Core.Logic.{_≢_, _↔_}
 use mathlib.Core.Option.{Option, some, none}
-use Prim.Native.Nat.{ℕ, zero, suc, _+_, _-_, _%_, _<_}
+use Prim.Native.Nat.{ℕ, zero, suc, _+_, _-_, _%_, _≤_, _<_}
 use native.Mathlib.Decide.{ℕ-discrete}
 use native.Mathlib.Omega.{arith}
 use lib.ListN.{length, getD, set, replicate, length-set, length-replicate}
@@ -15,11 +15,14 @@ use Rattle.marks.specs.Marks.{isMarked, withMark}
 use Rattle.desk.proofs.Laws.{open-within, fit-to-book, fit-to-cancel, fit-to-expire}
 use Rattle.desk.proofs.Standing.{standing-alone}
 use Rattle.desk.specs.Close.{dueIn, duePlace, cancelRefusal, expireRefusal, closeDesk, Cancels, Expires}
-use Rattle.desk.specs.Desk.{freshDesk, standing, placeIn, addressIn, OpenOn, putAt, shown, Looks}
+use Rattle.desk.specs.Desk.{freshDesk, standing, placeIn, addressIn, OpenOn, putAt, shown, Looks, Stands}
 use Rattle.desk.specs.Folder.{holderPlace, isFolderHeld}
 use Rattle.desk.specs.Open.{distanceOf, givenPlace, openRefusal, openDesk, Opens}
 use Rattle.desk.specs.Reply.{bookRefusal, replyRefusal, bookDesk, Replies}
 use Rattle.desk.specs.declared.AfterClose.{AfterClose}
+use Rattle.desk.specs.declared.Booking.{Booking}
+use Rattle.desk.specs.declared.Closing.{Closing}
+use Rattle.desk.specs.declared.Opening.{Opening}
 use Rattle.desk.specs.declared.AfterOpen.{AfterOpen}
 use Rattle.desk.specs.declared.AfterReply.{AfterReply}
 use Rattle.desk.specs.declared.Desk.{Desk}
@@ -108,6 +111,10 @@ module _ (desk : Desk) (without : Unmarked) (s : Same desk without) where
       → r ≡ shown (addressIn (without .tickets) address) (addressIn (without .tickets) address .live) (addressIn (without .tickets) address .withdrawn)
   looks-same address r looks = looks ∙ rw stands
 
+  -- and so does `ticket_on`
+  pub stands-same : (address : ℕ) (r : Ticket) → Stands desk address r → r ≡ addressIn (without .tickets) address
+  stands-same address r there = there ∙ rw stands
+
   -- what is put at a place is put there on both, and its mark beside it
   put-same : (turn turn′ place : ℕ) (ticket : Ticket) → turn ≡ turn′ → place < 95
       → Same (record { turn = turn; tickets = putAt desk place ticket .tickets; marks = putAt desk place ticket .marks })
@@ -125,6 +132,7 @@ module _ (desk : Desk) (without : Unmarked) (s : Same desk without) where
               other-mark (desk .marks) place (ticket .live) other there ∙ s .marked other h
               ∙ sym (ap (λ (t : Ticket). t .live) (getD-set-other (without .tickets) place other ticket noTicket there))
         ];
+        beyond = λ other h. other-mark (desk .marks) place (ticket .live) other (λ e. omega (arith, e)) ∙ s .beyond other h;
         places = length-set (without .tickets) place ticket ∙ s .places;
       }
 
@@ -176,6 +184,7 @@ fresh-same =
       turn-same = refl;
       tickets-same = refl;
       marked = λ place h. none-marked place ∙ sym (ap (λ (t : Ticket). t .live) (empty 95 place));
+      beyond = λ place h. none-marked place;
       places = length-replicate 95 noTicket;
     }
   where
@@ -194,6 +203,7 @@ as-before calls = all-same calls freshDesk freshUnmarked fresh-same
 pub same-plainly : {desk : Desk} {without : Unmarked} → Same desk without
     → (desk .turn ≡ without .turn) × (desk .tickets ≡ without .tickets)
     × ((place : ℕ) → place < 95 → (isMarked (desk .marks) place ≡ true) ↔ (getD (desk .tickets) place noTicket .live ≡ true))
+    × ((place : ℕ) → 95 ≤ place → isMarked (desk .marks) place ≡ false)
 same-plainly {desk} {without} s = (
   s .turn-same,
   s .tickets-same,
@@ -201,6 +211,7 @@ same-plainly {desk} {without} s = (
       let e : isMarked (desk .marks) place ≡ getD (desk .tickets) place noTicket .live =
       s .marked place h ∙ ap (λ (ts : List Ticket). placeIn ts place .live) (sym (s .tickets-same)) in
       (λ m. sym e ∙ m, λ l. e ∙ l),
+  s .beyond,
 )
 
 -- and what was told over any calls is what each of them told, in order, on the desk that those before it left
@@ -220,3 +231,49 @@ unmarked-none desk = refl
 pub unmarked-more : (desk : Unmarked) (call : Call) (calls : List Call) → unmarkedAll desk (call ∷ calls) ≡ unmarkedAll (unmarkedAfter desk call) calls
 unfolding unmarkedAll
 unmarked-more desk call calls = refl
+
+-- ---- what `Told` and `Unmarked` are, said out
+
+-- an unmarked desk is its turn and its tickets, and nothing beside them
+pub unmarked-alone : (a b : Unmarked) → a .turn ≡ b .turn → a .tickets ≡ b .tickets → a ≡ b
+unmarked-alone a b turns tickets = ap₂ (λ (n : ℕ) (ts : List Ticket). record { turn = n; tickets = ts }) turns tickets
+
+-- what is told is the answer, the count and the lent buffer, each of them: where the same is told all are the same
+pub told-opening-same : (a b : Opening) (m n : ℕ) (x y : List ℕ) → opening a m x ≡ opening b n y → (a ≡ b) × (m ≡ n) × (x ≡ y)
+told-opening-same a b m n x y e = (ap answerOf e, ap countOf e, ap roomOf e)
+  where
+    answerOf : Told → Opening
+    answerOf (opening answer count room) = answer
+    answerOf (booking answer room) = a
+    answerOf (closing answer) = a
+
+    countOf : Told → ℕ
+    countOf (opening answer count room) = count
+    countOf (booking answer room) = 0
+    countOf (closing answer) = 0
+
+    roomOf : Told → List ℕ
+    roomOf (opening answer count room) = room
+    roomOf (booking answer room) = []
+    roomOf (closing answer) = []
+
+pub told-booking-same : (a b : Booking) (x y : List ℕ) → booking a x ≡ booking b y → (a ≡ b) × (x ≡ y)
+told-booking-same a b x y e = (ap answerOf e, ap roomOf e)
+  where
+    answerOf : Told → Booking
+    answerOf (opening answer count room) = a
+    answerOf (booking answer room) = answer
+    answerOf (closing answer) = a
+
+    roomOf : Told → List ℕ
+    roomOf (opening answer count room) = []
+    roomOf (booking answer room) = room
+    roomOf (closing answer) = []
+
+pub told-closing-same : (a b : Closing) → closing a ≡ closing b → a ≡ b
+told-closing-same a b e = ap answerOf e
+  where
+    answerOf : Told → Closing
+    answerOf (opening answer count room) = a
+    answerOf (booking answer room) = a
+    answerOf (closing answer) = answer

@@ -2,10 +2,10 @@
 -- answers and tickets as before, the count of #108 included."
 -- Assumes nothing.
 use mathlib.Core.Path.{_≡_}
-use mathlib.Core.Bool.{Bool}
+use mathlib.Core.Bool.{Bool, false}
 use mathlib.Core.List.{List, [], _∷_}
 use mathlib.Core.Option.{Option, some, none}
-use Prim.Native.Nat.{ℕ, _+_, _-_, _%_, _<_}
+use Prim.Native.Nat.{ℕ, _+_, _-_, _%_, _≤_, _<_}
 use lib.ListN.{length, replicate, set}
 use Rattle.marks.specs.Marks.{isMarked}
 use Rattle.desk.specs.Close.{cancelRefusal, cancelTests, dueIn, duePlace, expireRefusal, expireTests, closeAnswer}
@@ -120,9 +120,10 @@ unfoldable pub unmarkedAll : Unmarked → List Call → Unmarked
 unmarkedAll desk [] = desk
 unmarkedAll desk (c ∷ cs) = unmarkedAll (unmarkedAfter desk c) cs
 
--- the relation that every call keeps: turn and tickets are the same, and a place is marked exactly where it holds a ticket
+-- the relation that every call keeps: turn and tickets are the same, a place is marked exactly where it holds a ticket, and no other bit is set
 pub record Same (desk : Desk) (without : Unmarked) : Type 0 where
   pub turn-same : desk .turn ≡ without .turn
   pub tickets-same : desk .tickets ≡ without .tickets
   pub marked : (place : ℕ) → place < 95 → isMarked (desk .marks) place ≡ placeIn (without .tickets) place .live
+  pub beyond : (place : ℕ) → 95 ≤ place → isMarked (desk .marks) place ≡ false
   pub places : length (without .tickets) ≡ 95
