@@ -55,10 +55,13 @@ ticketOn desk address = addressIn (standing desk) address
 abbrev pub OpenOn : Desk → ℕ → Type 0
 OpenOn desk address = Open (ticketOn desk address)
 
--- the desk with something else at a place, marked while that is open; the turn stays
+-- the desk with something else at a place, with this turn and these marks
+abbrev pub storedAt : Desk → ℕ → ℕ → Ticket → Marks → Desk
+storedAt desk turn place ticket marks = record { turn = turn; tickets = set (desk .tickets) place ticket; marks = marks }
+
+-- the place is marked while what stands there is open; the turn stays
 abbrev pub putAt : Desk → ℕ → Ticket → Desk
-putAt desk place ticket =
-    record { turn = desk .turn; tickets = set (desk .tickets) place ticket; marks = withMark (desk .marks) place (ticket .live) }
+putAt desk place ticket = storedAt desk (desk .turn) place ticket (withMark (desk .marks) place (ticket .live))
 
 -- the paper's number of each refusal; 10 to 14, 61, 17 to 20 and the reader's are told where they are judged
 abbrev pub faultNumber : Fault → ℕ

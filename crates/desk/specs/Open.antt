@@ -10,7 +10,7 @@ use lib.Dec.{leb, ltb}
 use lib.ListN.{length}
 use Rattle.lent.specs.Lent.{over}
 use Rattle.rows.specs.Rows.{Row, row, Test, test, firstOf, orLater, passedUp, raised}
-use Rattle.marks.specs.Marks.{isMarked}
+use Rattle.marks.specs.Marks.{isMarked, withMark}
 use Rattle.marks.specs.declared.Marks.{Marks}
 use Rattle.request.specs.Request.{askRows, askRefusal}
 use Rattle.request.specs.declared.Request.{Request}
@@ -19,7 +19,7 @@ use Rattle.telegram.specs.Write.{telegramFor}
 use Rattle.ticket.specs.Rest.{Rests, isResting, isFree}
 use Rattle.ticket.specs.Ticket.{Open, newTicket}
 use Rattle.ticket.specs.declared.Ticket.{Ticket}
-use Rattle.desk.specs.Desk.{standing, placeIn, ticketAt, putAt, faultNumber}
+use Rattle.desk.specs.Desk.{standing, placeIn, ticketAt, storedAt, faultNumber}
 use Rattle.desk.specs.Folder.{IsFolderHeld, isFolderHeld}
 use Rattle.desk.specs.declared.Desk.{Desk}
 use Rattle.desk.specs.declared.Fault.{Fault}
@@ -93,8 +93,7 @@ openTold (Opened address n) = none
 
 -- the ticket stands at the place that was given, and "the turn then moves to the address after it, again with 161 after 255"
 abbrev pub withTicket : Desk → ℕ → Ticket → Desk
-withTicket desk place ticket =
-    record { turn = (place + 1) % 95; tickets = putAt desk place ticket .tickets; marks = putAt desk place ticket .marks }
+withTicket desk place ticket = storedAt desk ((place + 1) % 95) place ticket (withMark (desk .marks) place (ticket .live))
 
 abbrev pub openDesk : Option Fault → Desk → ℕ → Ticket → Desk
 openDesk (some f) desk place ticket = desk

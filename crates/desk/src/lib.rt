@@ -4,7 +4,7 @@ use marks::Marks;
 pub use request::Request;
 use ticket::NO_TICKET;
 pub use ticket::Ticket;
-ghost use Rattle.desk.specs.Desk.{Fresh, Looks, Numbers, Places, Stands, liveAs, putAt};
+ghost use Rattle.desk.specs.Desk.{Fresh, Looks, Numbers, Places, Stands, liveAs, storedAt, putAt};
 ghost use Rattle.marks.specs.Marks.{isMarked};
 ghost use Rattle.desk.specs.Folder.{holderPlace, isFolderHeld};
 ghost use Rattle.desk.specs.Open.{Opens, PassesBy, PlacesAt, distanceOf, withTicket};
@@ -417,15 +417,9 @@ fn with_ticket(desk: Desk, place: u8, ticket: Ticket) -> Desk
     requires { ⌜ place < 95 ⌝ }
     ensures { λ r. ⌜ r ≡ withTicket desk place ticket ⌝ }
 {
-    let mut tickets = desk.tickets;
-    let given = place as usize;
-    tickets[given] = ticket;
+    let turn = (place + 1) % 95;
     let marks = marks::with_mark(desk.marks, place, ticket.live);
-    Desk {
-        turn: (place + 1) % 95,
-        tickets,
-        marks,
-    }
+    stored(desk, turn, place, ticket, marks)
 }
 
 // Something else stands at the place. The turn stays.
@@ -433,13 +427,20 @@ fn put_at(desk: Desk, place: u8, ticket: Ticket) -> Desk
     requires { ⌜ place < 95 ⌝ }
     ensures { λ r. ⌜ r ≡ putAt desk place ticket ⌝ }
 {
+    let changed = marks::with_mark(desk.marks, place, ticket.live);
+    stored(desk, desk.turn, place, ticket, changed)
+}
+
+fn stored(desk: Desk, turn: u8, place: u8, ticket: Ticket, marks: Marks) -> Desk
+    requires { ⌜ place < 95 ⌝ }
+    ensures { λ r. ⌜ r ≡ storedAt desk turn place ticket marks ⌝ }
+{
     let mut tickets = desk.tickets;
     let at = place as usize;
     tickets[at] = ticket;
-    let changed = marks::with_mark(desk.marks, place, ticket.live);
     Desk {
-        turn: desk.turn,
+        turn,
         tickets,
-        marks: changed,
+        marks,
     }
 }

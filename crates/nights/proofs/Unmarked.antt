@@ -15,7 +15,7 @@ use Rattle.marks.specs.Marks.{isMarked, withMark}
 use Rattle.desk.proofs.Laws.{open-within, fit-to-book, fit-to-cancel, fit-to-expire}
 use Rattle.desk.proofs.Standing.{standing-alone}
 use Rattle.desk.specs.Close.{dueIn, duePlace, cancelRefusal, expireRefusal, closeDesk, Cancels, Expires}
-use Rattle.desk.specs.Desk.{freshDesk, standing, placeIn, addressIn, OpenOn, putAt, shown, Looks, Stands}
+use Rattle.desk.specs.Desk.{freshDesk, standing, placeIn, addressIn, OpenOn, storedAt, shown, Looks, Stands}
 use Rattle.desk.specs.Folder.{holderPlace, isFolderHeld}
 use Rattle.desk.specs.Open.{distanceOf, givenPlace, openRefusal, openDesk, Opens}
 use Rattle.desk.specs.Reply.{bookRefusal, replyRefusal, bookDesk, Replies}
@@ -117,7 +117,7 @@ module _ (desk : Desk) (without : Unmarked) (s : Same desk without) where
 
   -- what is put at a place is put there on both, and its mark beside it
   put-same : (turn turn′ place : ℕ) (ticket : Ticket) → turn ≡ turn′ → place < 95
-      → Same (record { turn = turn; tickets = putAt desk place ticket .tickets; marks = putAt desk place ticket .marks })
+      → Same (storedAt desk turn place ticket (withMark (desk .marks) place (ticket .live)))
       (record { turn = turn′; tickets = set (without .tickets) place ticket })
   put-same turn turn′ place ticket turns near =
       record {
