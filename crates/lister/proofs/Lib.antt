@@ -1,3 +1,4 @@
+pub mod Lending
 pub mod Pouring
 pub mod Laws
 pub mod Whole

@@ -35,7 +35,7 @@ use Rattle.receiver.specs.Receiver.{largest, isPast, outsideAt, openedAt, isIns
 use Rattle.receiver.specs.Chunks.{lineIn}
 use Rattle.receiver.proofs.Chunks.{step-fits}
 use Rattle.receiver.proofs.Goes.{on-or-end, step-cons, step-none, step-goes, step-takes}
-use Rattle.lister.specs.Text.{longestLine, plus, counted, Poured, poured, behind, textTold, onward, pour, pourOf, listed, Lists}
+use Rattle.lister.specs.Text.{longestLine, plus, tallyOn, counted, Poured, poured, behind, textTold, onward, pour, pourOf, listed, Lists}
 use Rattle.receiver.specs.Parts.{Fits}
 use Rattle.lister.specs.Parts.{Fills, kindsIn, kindOf}
 
@@ -83,7 +83,7 @@ lines-short (Refused f) = rw no-line (omega arith)
 -- counted twice is counted at once
 counted-then : (l : Listing) (r s : Receiver) (lines : List Placed) → counted (counted l [] r) lines s ≡ counted l lines s
 counted-then l r s lines =
-    ap₂ (λ (a : ℕ) (b : ℕ × ℕ). record { receiver = s; ok = a; refused = b .0; dropped = b .1 }) (again isOk (l .ok))
+    ap₂ (λ (a : ℕ) (b : ℕ × ℕ). record { receiver = s; tally = tallyOn (l .tally) lines; ok = a; refused = b .0; dropped = b .1 }) (again isOk (l .ok))
     (ap₂ (λ (a b : ℕ). (a, b)) (again isRefused (l .refused)) (again isDropped (l .dropped)))
   where
     again : (counts : Event → ℕ) (n : ℕ) → plus (plus n (total counts [])) (total counts lines) ≡ plus n (total counts lines)

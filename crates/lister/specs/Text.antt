@@ -21,26 +21,40 @@ use Rattle.lister.specs.declared.Outcome.{Outcome}
 use Rattle.lister.specs.declared.Outcome.the-variants.{Done, Refused}
 use Rattle.receiver.specs.Receiver.{outsideAt, isInside, next, told, stepRefusal, faultNumber}
 use Rattle.receiver.specs.Chunks.{lineIn}
+use Rattle.tally.specs.Tally.{clearTally, isFull, withLine}
+use Rattle.tally.specs.declared.Tally.{Tally}
 
 -- ---- the totals
 
 -- a capture whose first byte has that place: nothing counted
 abbrev pub beginAt : ℕ → Listing
-beginAt place = record { receiver = outsideAt place; ok = 0; refused = 0; dropped = 0 }
+beginAt place = record { receiver = outsideAt place; tally = clearTally; ok = 0; refused = 0; dropped = 0 }
+
+-- 02, #113: a tally is "lent to each listing step". Where a line would carry its number past the most it is cleared, and goes on with that line
+abbrev pub tallyAfter : Event → Tally → Tally
+tallyAfter e t = withLine e (cond (isFull e t) clearTally t)
+
+abbrev pub tallyOn : Tally → List Placed → Tally
+tallyOn t [] = t
+tallyOn t (line ∷ lines) = tallyOn (tallyAfter (line .event) t) lines
 
 -- so many more, in 64 bits
 abbrev pub plus : ℕ → ℕ → ℕ
 plus n more = (n + more) % 2 ^ 64
 
 -- these lines counted
-abbrev pub counted : Listing → List Placed → Receiver → Listing
-counted l lines r =
+abbrev pub countedWith : Listing → List Placed → Receiver → Tally → Listing
+countedWith l lines r t =
     record {
       receiver = r;
+      tally = t;
       ok = plus (l .ok) (total isOk lines);
       refused = plus (l .refused) (total isRefused lines);
       dropped = plus (l .dropped) (total isDropped lines);
     }
+
+abbrev pub counted : Listing → List Placed → Receiver → Listing
+counted l lines r = countedWith l lines r (tallyOn (l .tally) lines)
 
 -- ---- the lines of a chunk, as long as there is room for the longest line
 

@@ -7,13 +7,17 @@ pub use pour::finish;
 pub use pour::list;
 use receiver::Fault;
 use receiver::Receiver;
+use receiver::Stepped;
+use tally::Tally;
 
 // What a listing has a line's room for. No line is longer.
 pub const LONGEST_LINE: usize = 150;
 
-// A listing so far: the receiver, and how many lines of each kind there were.
+// A listing so far: the receiver, the tally that is lent to each step, and how many lines of each kind
+// there were.
 pub struct Listing {
     pub receiver: Receiver,
+    pub tally: Tally,
     pub ok: u64,
     pub refused: u64,
     pub dropped: u64,
@@ -24,6 +28,12 @@ struct Kinds {
     ok: u64,
     refused: u64,
     dropped: u64,
+}
+
+// A step of the receiver, and the tally that was lent to it.
+struct Lent {
+    tally: Tally,
+    stepped: Stepped,
 }
 
 // What became of a chunk that was to be listed.

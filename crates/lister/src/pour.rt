@@ -1,6 +1,7 @@
 // The lines of a chunk as text, and the totals.
 use crate::Kinds;
 use crate::LONGEST_LINE;
+use crate::Lent;
 use crate::Listed;
 use crate::Listing;
 use crate::Outcome;
@@ -8,14 +9,18 @@ use lines::Event;
 use receiver::Answer;
 use receiver::Fault;
 use receiver::Receiver;
+use receiver::Stepped;
 use receiver::carries_past;
 use receiver::fresh;
-use receiver::step;
 use std::num::wrapping_add_u64;
-ghost use Rattle.lister.specs.Text.{Begins, Lists, endText, listed, counted};
+use tally::Counted;
+use tally::Tally;
+use tally::cleared;
+use tally::lend_step;
+ghost use Rattle.lister.specs.Text.{Begins, Lists, endText, listed, countedWith};
 ghost use Rattle.receiver.specs.Chunks.{lineIn};
 ghost use Rattle.receiver.specs.Parts.{Fits};
-ghost use Rattle.lister.specs.Parts.{Fills, kindsIn, kindOf};
+ghost use Rattle.lister.specs.Parts.{Fills, Lends, kindsIn, kindOf, ranOn, ranAnswer, isRefused};
 ghost use Rattle.listing.specs.Listing.{linesText};
 ghost use Rattle.lines.specs.Lines.{Writes};
 ghost use Rattle.lent.specs.Lent.{overAt};
@@ -30,6 +35,7 @@ pub fn begin(place: u64) -> Listing
 {
     Listing {
         receiver: fresh(place),
+        tally: cleared(),
         ok: 0,
         refused: 0,
         dropped: 0,
@@ -81,13 +87,68 @@ fn fill(listing: Listing, chunk: &[u8], room: &mut [u8]) -> Listed
         if room.len() - size < LONGEST_LINE {
             return done(so_far, taken, size);
         }
-        let stepped = step(so_far.receiver, &chunk[taken..]);
+        let lent = lent_to(so_far.tally, so_far.receiver, &chunk[taken..]);
+        let stepped = lent.stepped;
         let answer = stepped.answer;
         size += write_line(answer, room, size);
         taken += stepped.taken;
-        so_far = count(so_far, answer, stepped.receiver);
+        so_far = count(so_far, answer, stepped.receiver, lent.tally);
     }
     done(so_far, taken, size)
+}
+
+// A step of the receiver with the tally lent to it. Where the step's line would carry a number of the
+// tally past the most, the tally is cleared and lent again, so that no capture is cut short by it.
+fn lent_to(tally: Tally, receiver: Receiver, chunk: &[u8]) -> Lent
+    requires { ⌜ Fits (receiver .place) (now chunk) ⌝ }
+    ensures { λ r. ⌜ Lends tally receiver (now (chunk .entry)) r ⌝ }
+{
+    let first = lend_step(tally, receiver, chunk);
+    if is_refused(first) {
+        return ran(lend_step(cleared(), receiver, chunk));
+    }
+    ran(first)
+}
+
+// A step that is not past the largest place is refused for a full tally only.
+fn is_refused(counted: Counted) -> bool
+    ensures { λ r. ⌜ r ≡ isRefused (counted .stepped .answer) ⌝ }
+{
+    let stepped = counted.stepped;
+    let answer = stepped.answer;
+    match answer {
+        tally::Answer::Nothing => false,
+        tally::Answer::Line(_) => false,
+        tally::Answer::Refused(_) => true,
+    }
+}
+
+// The receiver's own step, of one that was done.
+fn ran(counted: Counted) -> Lent
+    ensures { λ r. ⌜ r ≡ ranOn counted ⌝ }
+{
+    let tally = counted.tally;
+    let stepped = counted.stepped;
+    let receiver = stepped.receiver;
+    let answer = stepped.answer;
+    Lent {
+        tally,
+        stepped: Stepped {
+            receiver,
+            taken: stepped.taken,
+            answer: ran_answer(answer),
+        },
+    }
+}
+
+fn ran_answer(answer: tally::Answer) -> Answer
+    ensures { λ r. ⌜ r ≡ ranAnswer answer ⌝ }
+{
+    match answer {
+        tally::Answer::Nothing => Answer::Nothing,
+        tally::Answer::Line(line) => Answer::Line(line),
+        tally::Answer::Refused(_) => Answer::Nothing,
+    }
 }
 
 fn done(listing: Listing, taken: usize, size: usize) -> Listed
@@ -117,13 +178,14 @@ fn write_line(answer: Answer, room: &mut [u8], at: usize) -> usize
     }
 }
 
-// The listing behind a step.
-fn count(listing: Listing, answer: Answer, receiver: Receiver) -> Listing
-    ensures { λ r. ⌜ r ≡ counted listing (lineIn answer) receiver ⌝ }
+// The listing behind a step, with the tally that it left.
+fn count(listing: Listing, answer: Answer, receiver: Receiver, tally: Tally) -> Listing
+    ensures { λ r. ⌜ r ≡ countedWith listing (lineIn answer) receiver tally ⌝ }
 {
     let kinds = kinds_of(answer);
     Listing {
         receiver,
+        tally,
         ok: wrapping_add_u64(listing.ok, kinds.ok),
         refused: wrapping_add_u64(listing.refused, kinds.refused),
         dropped: wrapping_add_u64(listing.dropped, kinds.dropped),

@@ -76,7 +76,7 @@ add-taken : tie.Need-add-taken Inv-loop μ-loop
 add-taken c =
     let s = c .before .before .before .before .before .before .before .before .before in
     let w = within (s .before .before .before .before .loop .inv) (s .list .result) (s .list .last .1 .1 .0) (s .list .ensures) in
-    omega (arith, w .1)
+    record { fits = omega (arith, w .1, s .before .before .before .before .before .before .before .good) }
 
 loop-less : tie.Need-loop-less Inv-loop μ-loop
 loop-less c =

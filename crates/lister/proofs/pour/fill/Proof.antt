@@ -2,6 +2,7 @@ use mathlib.Core.Path.{_∙_}
 use Prim.Native.Nat.{_-_}
 use borrow.Author.Needs.{needs}
 use lib.ListN.{length}
+use Rattle.lister.proofs.Lending.{counted-lent}
 use Rattle.lister.proofs.Pouring.{Going, going-starts, going-on, ends-full, ends-done, step-less, step-within, text-within}
 use Rattle.lister.proofs.pour.fill.Statement.{statement}
 use Rattle.lister.proofs.pour.fill.Tie as tie
@@ -31,33 +32,33 @@ returns c =
     let end = ends-full (c .before .before .before .loop .inv) (c .before .if1 .taken) in
     (c .done .ensures ∙ end .0, end .1)
 
-sub-step : tie.Need-sub-step Inv-loop μ-loop
-sub-step c = search needs
+sub-lent-to : tie.Need-sub-lent-to Inv-loop μ-loop
+sub-lent-to c = search needs
 
-part-step-start : tie.Need-part-step-start Inv-loop μ-loop
-part-step-start c = search needs
+part-lent-to-start : tie.Need-part-lent-to-start Inv-loop μ-loop
+part-lent-to-start c = search needs
 
-part-step-end : tie.Need-part-step-end Inv-loop μ-loop
-part-step-end c = search needs
+part-lent-to-end : tie.Need-part-lent-to-end Inv-loop μ-loop
+part-lent-to-end c = search needs
 
-step-requires : tie.Need-step-requires Inv-loop μ-loop
-step-requires c κs = search needs
+lent-to-requires : tie.Need-lent-to-requires Inv-loop μ-loop
+lent-to-requires c κs = search needs
 
 write-line-requires : tie.Need-write-line-requires Inv-loop μ-loop
 write-line-requires c κs = search needs
 
 add-size : tie.Need-add-size Inv-loop μ-loop
 add-size c =
-    let here = c .before .before .before .before in
+    let here = c .before .before .before .before .before in
     let test = here .before .before in
-    let h = text-within (test .before .before .loop .inv) (test .before .loop-test .taken) (test .if1 .left) (here .step .result) (here .step .ensures) (c .before .before .write-line .ensures .0) in
+    let h = text-within (test .before .before .loop .inv) (test .before .loop-test .taken) (test .if1 .left) (here .lent-to .result .stepped) (here .lent-to .ensures .0) (c .before .before .write-line .ensures .0) in
     search (needs, h)
 
 add-taken : tie.Need-add-taken Inv-loop μ-loop
 add-taken c =
-    let here = c .before .before .before .before .before in
+    let here = c .before .before .before .before .before .before in
     let test = here .before .before in
-    let h = step-within (test .before .before .loop .inv) (test .before .loop-test .taken) (test .if1 .left) (here .step .result) (here .step .ensures) in
+    let h = step-within (test .before .before .loop .inv) (test .before .loop-test .taken) (test .if1 .left) (here .lent-to .result .stepped) (here .lent-to .ensures .0) in
     search (needs, h)
 
 count-requires : tie.Need-count-requires Inv-loop μ-loop
@@ -65,18 +66,18 @@ count-requires c κs = search needs
 
 loop-less : tie.Need-loop-less Inv-loop μ-loop
 loop-less c =
-    let here = c .before .before .before .before .before .before in
+    let here = c .before .before .before .before .before .before .before in
     let test = here .before .before in
-    step-less (test .before .before .loop .inv) (test .before .loop-test .taken) (test .if1 .left) (here .step .result) (here .step .ensures)
+    step-less (test .before .before .loop .inv) (test .before .loop-test .taken) (test .if1 .left) (here .lent-to .result .stepped) (here .lent-to .ensures .0)
 
 loop-again : tie.Need-loop-again Inv-loop μ-loop
 loop-again c =
-    let here = c .before .before .before .before .before .before in
+    let here = c .before .before .before .before .before .before .before in
     let test = here .before .before in
     let written = c .before .before .before .before .write-line in
     let so = test .before .before .loop .inv in
-    rw (c .count .ensures)
-    (going-on so (test .before .loop-test .taken) (test .if1 .left) (here .step .result) (here .step .ensures) (written .result) (written .ensures .0) _ (written .ensures .1))
+    rw (c .count .ensures ∙ counted-lent (test .before .before .loop .so-far) (here .lent-to .result) _ (here .lent-to .ensures))
+    (going-on so (test .before .loop-test .taken) (test .if1 .left) (here .lent-to .result .stepped) (here .lent-to .ensures .0) (written .result) (written .ensures .0) _ (written .ensures .1))
 
 done-requires-2 : tie.Need-done-requires-2 Inv-loop μ-loop
 done-requires-2 c κs = search needs
@@ -100,10 +101,10 @@ fill-spec =
     done-requires
     same-length
     returns
-    sub-step
-    part-step-start
-    part-step-end
-    step-requires
+    sub-lent-to
+    part-lent-to-start
+    part-lent-to-end
+    lent-to-requires
     write-line-requires
     add-size
     add-taken
