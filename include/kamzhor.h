@@ -6,17 +6,19 @@
  *     cc -I include host.c target/staticlib/libkamzhor.a -o host
  *
  * The library keeps no state, takes no memory and holds no lock: any number of threads may call it at once, as long as no
- * two of them share a buffer that one of them lends as room. A call needs under 1 KiB of stack; kamzhor_step needs under
- * 3 KiB, with the receiver that it is handed and its answer, which pass by value (520 and 568 bytes).
+ * two of them share a tally, or a buffer that one of them lends as room. A call needs under 1 KiB of stack; kamzhor_step
+ * needs under 5 KiB, with the receiver that it is handed and its answer, which pass by value (520 and 568 bytes).
  *
- * Memory: every pointer comes with its length, in bytes. What is lent stays the caller's; the library reads and writes
- * it during the call only, never past its length. A null pointer with length 0 is an empty string of bytes.
+ * Memory: every pointer to bytes comes with its length, in bytes; one to a tally is to one whole struct kamzhor_tally. What
+ * is lent stays the caller's; the library reads and writes it during the call only, never past its length, and keeps no
+ * pointer. A null pointer with length 0 is an empty string of bytes; a tally's pointer is never null.
  *
- * Four things nobody checks, so the caller must see to them:
+ * Five things nobody checks, so the caller must see to them:
  *   - lengths are true: that many bytes can be read there, and in a room also be written;
  *   - every length is below 2^63;
- *   - a frame and the room that is lent with it do not overlap;
- *   - nobody else changes lent bytes during the call.
+ *   - a tally's pointer is that of a struct kamzhor_tally whose numbers were set, which lives as long as the call;
+ *   - a frame and the room that is lent with it do not overlap, nor a chunk and the tally;
+ *   - nobody else changes lent bytes or a lent tally during the call, nor reads a lent room or tally.
  *
  *     uint8_t room[KAMZHOR_MOST_DATA];
  *     struct kamzhor_frame t = kamzhor_read_frame(frame, length, room, sizeof room);
@@ -27,14 +29,22 @@
  *     }
  *
  * A line that comes in chunks is taken by steps, each on what the one before it left of the chunk. The receiver goes from
- * each answer into the next step, and no other memory is needed, whatever comes:
+ * each answer into the next step, the tally is lent to each and counts its lines where it lies, and no other memory is
+ * needed, whatever comes:
  *
  *     struct kamzhor_receiver receiver = kamzhor_receiver(0);
+ *     struct kamzhor_tally tally = {0, 0, 0};
+ *     unsigned long long ok = 0;
  *     ssize_t length;
  *     while ((length = read(line, chunk, sizeof chunk)) > 0) {
  *         size_t from = 0;
  *         while (from < (size_t)length) {
- *             struct kamzhor_step step = kamzhor_step(receiver, chunk + from, (size_t)length - from);
+ *             struct kamzhor_step step = kamzhor_step(receiver, &tally, chunk + from, (size_t)length - from);
+ *             if (step.refusal == KAMZHOR_TALLY_FULL) {
+ *                 ok += tally.read;
+ *                 memset(&tally, 0, sizeof tally);
+ *                 continue;
+ *             }
  *             if (step.refusal != KAMZHOR_DONE)
  *                 return step.refusal;
  *             receiver = step.receiver;
@@ -45,6 +55,7 @@
  *     }
  *     if (receiver.size > 0)
  *         printf("at %llu open\n", (unsigned long long)receiver.start);
+ *     printf("ok %llu\n", ok + tally.read);
  */
 #ifndef KAMZHOR_H
 #define KAMZHOR_H
@@ -56,7 +67,8 @@
 extern "C" {
 #endif
 
-/* Why a call was refused. All faults of one frame are ranked by number, and the lowest is the answer. */
+/* Why a call was refused. All faults of one frame are ranked by number, and the lowest is the answer; of a step 76 goes
+ * ahead of 60. */
 enum {
     KAMZHOR_DONE = 0,
     KAMZHOR_NOT_FRAMED = 1,       /* under 2 bytes, or not from 13 to 10 */
@@ -71,7 +83,8 @@ enum {
     KAMZHOR_UNKNOWN_KIND = 40,    /* no kind of value */
     KAMZHOR_WRONG_LENGTH = 41,    /* length 0, or no multiple of the kind's size */
     KAMZHOR_NO_SUCH_ELEMENT = 42, /* the bytes end before that element does */
-    KAMZHOR_PAST_LARGEST = 60     /* the chunk would carry the place past 2^64 - 1 */
+    KAMZHOR_PAST_LARGEST = 60,    /* the chunk would carry the place past 2^64 - 1 */
+    KAMZHOR_TALLY_FULL = 76       /* the step's line would carry its number of the tally past 4294967295 */
 };
 
 /* Types of a message. */
@@ -143,8 +156,18 @@ struct kamzhor_receiver {
     uint8_t bytes[KAMZHOR_MOST_KEPT]; /* these bytes, from the 13 on; 0 behind them */
 };
 
+/* How many lines of each kind steps have told since it was cleared. Set all three numbers to 0 to begin with, and to clear
+ * it at any time between two calls; any other numbers are counted on from. It is the caller's: kamzhor_step is lent its
+ * address, changes it there, and keeps nothing of it, so it may lie anywhere, as long as it outlives the call. One tally may
+ * serve several receivers, one call after another, but not two threads at once. An open frame is in none of the numbers. */
+struct kamzhor_tally {
+    uint32_t read;    /* KAMZHOR_LINE_OK */
+    uint32_t refused; /* KAMZHOR_LINE_REFUSED */
+    uint32_t dropped; /* KAMZHOR_LINE_DROPPED */
+};
+
 /* What a step did, and the receiver behind it. Where refusal is not KAMZHOR_DONE, nothing was taken, the receiver is the one
- * that was handed over, and every other field is 0. */
+ * that was handed over, every other field is 0, and the tally is as it was. */
 struct kamzhor_step {
     uint32_t refusal;
     uint32_t line;              /* what became of the frame whose line the last byte taken ended, or KAMZHOR_NO_LINE */
@@ -171,12 +194,17 @@ struct kamzhor_receiver kamzhor_receiver(uint64_t place);
 
 /* Takes the bytes of a chunk up to and including the one that ends the next line, or all of them where none does. A chunk
  * may have any length, 0 too, and however the bytes were cut, the lines are those of all of them joined. A frame over 494
- * bytes is refused 5 when its 10 comes, whatever stands in it; until then it is open like any other. Gives 0 or 60, and
- * after 60 the same receiver goes on with a chunk that is shorter.
+ * bytes is refused 5 when its 10 comes, whatever stands in it; until then it is open like any other.
+ *
+ * Where the step tells a line, the tally's number of that kind is one more; a step without one leaves the tally, and a frame
+ * that is refused is a line like the others. Gives 0, 76 or 60, and after 76 and 60 nothing was done. 76, ahead of 60: this
+ * step's own line has no room in its number, which stands at 4294967295. Note the three numbers, clear the tally, and step
+ * again with the same receiver and chunk; steps before it on the same chunk stay done. A step without a line is never 76.
+ * After 60 the same receiver goes on with a chunk that is shorter.
  *
  * The frame of a line is in the bytes kept before the step, if any were, and then in the chunk's up to the last one taken;
  * or, if none were, in the chunk's from place minus the receiver's place on. Joined, kamzhor_read_frame reads its data. */
-struct kamzhor_step kamzhor_step(struct kamzhor_receiver receiver, const uint8_t *chunk, size_t length);
+struct kamzhor_step kamzhor_step(struct kamzhor_receiver receiver, struct kamzhor_tally *tally, const uint8_t *chunk, size_t length);
 
 #ifdef __cplusplus
 }

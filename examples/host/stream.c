@@ -9,15 +9,25 @@
  */
 #include "kamzhor.h"
 #include <stdio.h>
+#include <string.h>
 #include <unistd.h>
 
-/* what the line came to so far */
+/* what the line came to so far: the tally counts its lines, and the totals what the tally held whenever it was cleared */
 struct listing {
     struct kamzhor_receiver receiver;
+    struct kamzhor_tally tally;
     unsigned long long ok, refused, dropped;
 };
 
-static void show(struct listing *l, const struct kamzhor_step *step)
+static void clear(struct listing *l)
+{
+    l->ok += l->tally.read;
+    l->refused += l->tally.refused;
+    l->dropped += l->tally.dropped;
+    memset(&l->tally, 0, sizeof l->tally);
+}
+
+static void show(const struct kamzhor_step *step)
 {
     const struct kamzhor_frame *t = &step->frame;
     if (step->line == KAMZHOR_NO_LINE)
@@ -25,33 +35,35 @@ static void show(struct listing *l, const struct kamzhor_step *step)
     printf("at %llu ", (unsigned long long)step->place);
     switch (step->line) {
     case KAMZHOR_LINE_OK:
-        l->ok++;
         printf("ok %u %u %u %u %llu\n", (unsigned)t->destination, (unsigned)t->source, (unsigned)t->type, (unsigned)t->reg, (unsigned long long)t->size);
         break;
     case KAMZHOR_LINE_REFUSED:
-        l->refused++;
         printf("refused %u", (unsigned)t->refusal);
         if (t->refusal == KAMZHOR_BAD_SUBSTITUTION)
             printf(" in %llu", (unsigned long long)t->place);
         printf("\n");
         break;
     default:
-        l->dropped++;
         printf("dropped\n");
     }
 }
 
-/* by steps, each on what the one before it left of the chunk; answers the number of a refusal, or 0 */
+/* by steps, each on what the one before it left of the chunk; answers the number of a refusal, or 0. A full tally is cleared
+ * and the step made again, so that none but 60 is left. */
 static uint32_t take(struct listing *l, const uint8_t *chunk, size_t length)
 {
     while (length > 0) {
-        struct kamzhor_step step = kamzhor_step(l->receiver, chunk, length);
+        struct kamzhor_step step = kamzhor_step(l->receiver, &l->tally, chunk, length);
+        if (step.refusal == KAMZHOR_TALLY_FULL) {
+            clear(l);
+            continue;
+        }
         if (step.refusal != KAMZHOR_DONE)
             return step.refusal;
         l->receiver = step.receiver;
         chunk += step.taken;
         length -= (size_t)step.taken;
-        show(l, &step);
+        show(&step);
     }
     return KAMZHOR_DONE;
 }
@@ -59,7 +71,7 @@ static uint32_t take(struct listing *l, const uint8_t *chunk, size_t length)
 int main(void)
 {
     static uint8_t chunk[4000];
-    struct listing l = {kamzhor_receiver(0), 0, 0, 0};
+    struct listing l = {kamzhor_receiver(0), {0, 0, 0}, 0, 0, 0};
     ssize_t length;
     printf("Interbus capture\n");
     while ((length = read(STDIN_FILENO, chunk, sizeof chunk)) > 0) {
@@ -76,6 +88,7 @@ int main(void)
     }
     if (l.receiver.size > 0)
         printf("at %llu open\n", (unsigned long long)l.receiver.start);
+    clear(&l);
     printf("ok %llu refused %llu dropped %llu\n", l.ok, l.refused, l.dropped);
     return fflush(stdout) ? 1 : 0;
 }

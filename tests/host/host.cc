@@ -33,13 +33,17 @@ static bool refused()
 static bool received()
 {
     const uint8_t line[] = {65, 13, 0xA2, 0x0F, 0x03, 0x30, 0x48, 0x2F, 10, 13};
-    struct kamzhor_step cut = kamzhor_step(kamzhor_receiver(7), line, 5);
-    struct kamzhor_step ended = kamzhor_step(cut.receiver, line + 5, 5);
-    struct kamzhor_step opened = kamzhor_step(ended.receiver, line + 9, 1);
+    kamzhor_tally tally = {4294967294u, 4294967295u, 4294967295u};
+    struct kamzhor_step cut = kamzhor_step(kamzhor_receiver(7), &tally, line, 5);
+    struct kamzhor_step ended = kamzhor_step(cut.receiver, &tally, line + 5, 5);
+    struct kamzhor_step opened = kamzhor_step(ended.receiver, &tally, line + 9, 1);
+    struct kamzhor_step full = kamzhor_step(kamzhor_receiver(UINT64_MAX), &tally, line, 9);
     return cut.line == KAMZHOR_NO_LINE && cut.taken == 5 && cut.receiver.start == 8 && cut.receiver.size == 4 && cut.receiver.bytes[3] == 3
         && ended.line == KAMZHOR_LINE_OK && ended.taken == 4 && ended.place == 8 && ended.frame.reg == 48 && ended.receiver.size == 0
         && opened.line == KAMZHOR_NO_LINE && opened.receiver.place == 17 && opened.receiver.start == 16
-        && kamzhor_step(kamzhor_receiver(UINT64_MAX), line, 1).refusal == KAMZHOR_PAST_LARGEST;
+        && full.refusal == KAMZHOR_TALLY_FULL && full.taken == 0 && full.receiver.place == UINT64_MAX
+        && tally.read == 4294967295u && tally.refused == 4294967295u && tally.dropped == 4294967295u
+        && kamzhor_step(kamzhor_receiver(UINT64_MAX), &tally, line, 1).refusal == KAMZHOR_PAST_LARGEST;
 }
 
 int main()

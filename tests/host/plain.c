@@ -174,30 +174,40 @@ static void receiver_behind(const uint8_t *stream, size_t n, uint64_t place, str
     memcpy(out->bytes, stream + start, (size_t)out->size);
 }
 
-void plain_step_in(const uint8_t *stream, size_t from, size_t to, uint64_t place, struct plain_step *out)
+/* The step as its bytes make it, wherever they lie, is done and its line counted, unless its number would pass 4294967295 or
+ * a place the largest. Then all is as before, and the tally's number goes ahead of the place's. */
+static void judge(const struct plain_receiver *before, int past, struct plain_tally *tally, struct plain_step *out)
 {
+    unsigned refusal = past ? 60 : 0;
+    if (out->line && tally->lines[out->line] + 1 > 4294967295u)
+        refusal = 76;
+    if (refusal) {
+        memset(out, 0, sizeof *out);
+        out->refusal = refusal;
+        out->receiver = *before;
+    } else if (out->line)
+        tally->lines[out->line]++;
+}
+
+void plain_step_in(const uint8_t *stream, size_t from, size_t to, uint64_t place, struct plain_tally *tally, struct plain_step *out)
+{
+    struct plain_receiver before;
     size_t i, start;
     memset(out, 0, sizeof *out);
-    if (to > UINT64_MAX - place) {
-        out->refusal = 60;
-        to = from;
-    }
+    receiver_behind(stream, from, place, &before);
     for (i = from; i < to && !out->line; i++)
         if ((stream[i] == 10 || stream[i] == 13) && (start = open_frame(stream, i)) < i)
             line_of(stream + start, i - start, place + start, stream[i], out);
     out->taken = i - from;
     receiver_behind(stream, i, place, &out->receiver);
+    judge(&before, to > UINT64_MAX - place, tally, out);
 }
 
-void plain_step_of(const struct plain_receiver *receiver, const uint8_t *chunk, size_t n, struct plain_step *out)
+void plain_step_of(const struct plain_receiver *receiver, struct plain_tally *tally, const uint8_t *chunk, size_t n, struct plain_step *out)
 {
     struct plain_receiver *r = &out->receiver;
     memset(out, 0, sizeof *out);
     *r = *receiver;
-    if (n > UINT64_MAX - r->place) {
-        out->refusal = 60;
-        return;
-    }
     while (out->taken < n && !out->line) {
         uint8_t byte = chunk[out->taken++];
         uint64_t place = r->place++;
@@ -214,4 +224,5 @@ void plain_step_of(const struct plain_receiver *receiver, const uint8_t *chunk, 
         } else if (r->size > 0 && r->size < PLAIN_KEPT)
             r->bytes[r->size++] = byte;
     }
+    judge(receiver, n > UINT64_MAX - receiver->place, tally, out);
 }

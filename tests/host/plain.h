@@ -26,6 +26,11 @@ struct plain_receiver {
     uint8_t bytes[PLAIN_KEPT];
 };
 
+/* how many lines of each kind there were: 1 read, 2 refused, 3 dropped */
+struct plain_tally {
+    uint64_t lines[4];
+};
+
 struct plain_step {
     unsigned refusal, line;
     uint64_t taken, place;
@@ -42,10 +47,10 @@ struct plain_value plain_read_value(uint64_t kind, const uint8_t *bytes, size_t 
 size_t plain_framed(const uint8_t *message, size_t n, uint8_t *out);
 
 /* The step over the bytes of a stream from one of them up to another, by reading the stream from its first byte, which has
- * that place: nothing is kept from step to step. */
-void plain_step_in(const uint8_t *stream, size_t from, size_t to, uint64_t place, struct plain_step *out);
+ * that place: nothing is kept from step to step but the tally. */
+void plain_step_in(const uint8_t *stream, size_t from, size_t to, uint64_t place, struct plain_tally *tally, struct plain_step *out);
 
 /* The step of any receiver, also of one that no bytes lead to, byte by byte. */
-void plain_step_of(const struct plain_receiver *receiver, const uint8_t *chunk, size_t n, struct plain_step *out);
+void plain_step_of(const struct plain_receiver *receiver, struct plain_tally *tally, const uint8_t *chunk, size_t n, struct plain_step *out);
 
 #endif

@@ -9,6 +9,7 @@
 static uint8_t stack[16384] __attribute__((aligned(16)));
 static uint8_t bytes[600], room[KAMZHOR_MOST_DATA];
 static struct kamzhor_receiver receiver;
+static struct kamzhor_tally tally;
 static struct kamzhor_frame frame;
 static struct kamzhor_value value;
 static struct kamzhor_step step;
@@ -36,7 +37,16 @@ static void begin(void)
 
 static void take(void)
 {
-    step = kamzhor_step(receiver, bytes, sizeof bytes);
+    step = kamzhor_step(receiver, &tally, bytes, sizeof bytes);
+}
+
+/* a step that is refused: with 60, and with 76 where it would end a line */
+static void refuse(void)
+{
+    receiver.place = UINT64_MAX;
+    tally.read = tally.refused = tally.dropped = 4294967295u;
+    step = kamzhor_step(receiver, &tally, bytes, sizeof bytes);
+    tally.read = tally.refused = tally.dropped = 0;
 }
 
 /* how many bytes of stack this needs, its return address among them */
@@ -74,7 +84,7 @@ static int within(const char *name, void (*call)(void), size_t most)
 int main(void)
 {
     if (within("kamzhor_remainder", remainder_of, 1024) && within("kamzhor_read_frame", read_frame, 1024) && within("kamzhor_read_value", read_value, 1024)
-        && within("kamzhor_receiver", begin, 1024) && within("kamzhor_step", take, 3072))
+        && within("kamzhor_receiver", begin, 1024) && within("kamzhor_step", take, 5120) && within("kamzhor_step, refused,", refuse, 5120))
         return 0;
     printf("host: FAILED, that is more than the header says\n");
     return 1;

@@ -1,6 +1,6 @@
-/* The receiver as a C host calls it: streams cut into chunks in many ways, each step's whole answer compared with plain.c,
- * which reads the stream from its first byte each time; and receivers that no call made. Each chunk ends right before a
- * closed page, or begins right behind one. */
+/* The receiver as a C host calls it: streams cut into chunks in many ways, each step's whole answer and its tally compared
+ * with plain.c, which reads the stream from its first byte each time; and receivers that no call made. Each chunk, and each
+ * tally, ends right before a closed page, or begins right behind one. */
 #include "kamzhor.h"
 
 #include "plain.h"
@@ -20,6 +20,9 @@ AT(receiver, place, 0)
 AT(receiver, start, 8)
 AT(receiver, size, 16)
 AT(receiver, bytes, 24)
+AT(tally, read, 0)
+AT(tally, refused, 4)
+AT(tally, dropped, 8)
 AT(step, refusal, 0)
 AT(step, line, 4)
 AT(step, taken, 8)
@@ -28,9 +31,12 @@ AT(step, frame, 24)
 AT(step, receiver, 48)
 typedef char receiver_is_520_bytes[sizeof(struct kamzhor_receiver) == 520 ? 1 : -1];
 typedef char step_is_568_bytes[sizeof(struct kamzhor_step) == 568 ? 1 : -1];
+typedef char tally_is_12_bytes[sizeof(struct kamzhor_tally) == 12 ? 1 : -1];
 
-static unsigned long lines[4], numbers[64];
-static struct ground chunks;
+#define MOST 4294967295u /* what a number of the tally holds */
+
+static unsigned long lines[4], numbers[80];
+static struct ground chunks, tallies;
 static uint8_t stream[LONG];
 
 /* ---- one step, compared */
@@ -53,15 +59,33 @@ static void same_step(const struct kamzhor_step *a, const struct plain_step *b)
     same_receiver(&a->receiver, &b->receiver);
 }
 
-static struct kamzhor_step step(struct kamzhor_receiver receiver, const uint8_t *chunk, size_t n, const struct plain_step *want)
+static void same_tally(const struct kamzhor_tally *a, const struct plain_tally *b)
 {
-    struct kamzhor_step a = kamzhor_step(receiver, chunk, n);
+    if (a->read != b->lines[1] || a->refused != b->lines[2] || a->dropped != b->lines[3])
+        fail("a number of the tally differs");
+}
+
+/* with the tally from the one to the other */
+static struct kamzhor_step step(struct kamzhor_receiver receiver, const struct plain_tally *from, const uint8_t *chunk, size_t n,
+                                const struct plain_step *want, const struct plain_tally *to)
+{
+    int at_end = (int)below(2);
+    uint8_t *lent = lend(tallies, sizeof(struct kamzhor_tally), at_end);
+    struct kamzhor_tally *tally = (struct kamzhor_tally *)(void *)lent;
+    struct kamzhor_step a;
+    tally->read = (uint32_t)from->lines[1];
+    tally->refused = (uint32_t)from->lines[2];
+    tally->dropped = (uint32_t)from->lines[3];
+    a = kamzhor_step(receiver, tally, chunk, n);
     calls++;
     same_step(&a, want);
+    same_tally(tally, to);
     if (n == 0) {
-        struct kamzhor_step none = kamzhor_step(receiver, NULL, 0);
+        struct kamzhor_step none = kamzhor_step(receiver, tally, NULL, 0);
         same_step(&none, want);
+        same_tally(tally, to);
     }
+    unharmed(lent, sizeof *tally, at_end);
     lines[a.line]++;
     numbers[a.refusal]++;
     numbers[a.frame.refusal]++;
@@ -91,6 +115,10 @@ struct taken {
     struct kamzhor_step last;
     size_t bytes;
     uint64_t place; /* of its first byte */
+    struct plain_tally tally;
+    uint64_t told[4];  /* how many lines of each kind the steps told */
+    uint64_t noted[4]; /* what the tally held whenever it was cleared */
+    int clears;        /* whether it is, after a 76 */
 };
 
 static struct taken begin(uint64_t place)
@@ -100,25 +128,47 @@ static struct taken begin(uint64_t place)
     memset(&t, 0, sizeof t);
     t.receiver = kamzhor_receiver(place);
     t.place = want.place = place;
+    t.clears = 1;
     same_receiver(&t.receiver, &want);
     return t;
+}
+
+/* one step on those bytes, which are the stream's up to that one */
+static void take(struct taken *t, const uint8_t *lent, size_t to)
+{
+    static struct plain_step want;
+    struct plain_tally after = t->tally;
+    plain_step_in(stream, t->bytes, to, t->place, &after, &want);
+    t->last = step(t->receiver, &t->tally, lent, to - t->bytes, &want, &after);
+    same_frame(&t->receiver, lent, &t->last);
+    t->receiver = t->last.receiver;
+    t->bytes += (size_t)t->last.taken;
+    t->tally = after;
+    t->told[t->last.line]++;
+}
+
+static void clear(struct taken *t)
+{
+    size_t i;
+    for (i = 0; i < 4; i++)
+        t->noted[i] += t->tally.lines[i];
+    memset(&t->tally, 0, sizeof t->tally);
 }
 
 /* hands over the stream's bytes up to that one; answers whether they were taken */
 static int chunk(struct taken *t, size_t to)
 {
-    static struct plain_step want;
     size_t from = t->bytes, n = to - from;
     int at_end = (int)below(2);
     uint8_t *lent = lend(chunks, n, at_end);
     memcpy(lent, stream + from, n);
-    do {
-        plain_step_in(stream, t->bytes, to, t->place, &want);
-        t->last = step(t->receiver, lent + (t->bytes - from), to - t->bytes, &want);
-        same_frame(&t->receiver, lent + (t->bytes - from), &t->last);
-        t->receiver = t->last.receiver;
-        t->bytes += (size_t)t->last.taken;
-    } while (t->bytes < to && t->last.refusal == KAMZHOR_DONE);
+    for (;;) {
+        take(t, lent + (t->bytes - from), to);
+        if (t->last.refusal == KAMZHOR_TALLY_FULL && t->clears)
+            clear(t);
+        else if (t->last.refusal != KAMZHOR_DONE || t->bytes == to)
+            break;
+    }
     if (memcmp(lent, stream + from, n))
         fail("the chunk changed");
     unharmed(lent, n, at_end);
@@ -132,10 +182,25 @@ static size_t some_cut(size_t from, size_t n, size_t most)
     return from + (length < left ? length : left);
 }
 
-/* the whole stream, in chunks of at most so many bytes; where one would go past the largest place, only what fits */
+/* a tally that was cleared, or one that has room for few lines or none */
+static void some_tally(struct plain_tally *tally)
+{
+    size_t i;
+    memset(tally, 0, sizeof *tally);
+    if (below(2))
+        for (i = 1; i < 4; i++)
+            tally->lines[i] = below(4) ? MOST - below(6) : random64() >> (32 + below(32));
+}
+
+/* The whole stream, in chunks of at most so many bytes; where one would go past the largest place, only what fits. A full
+ * tally is cleared, and what it held together with what it holds at the end is what it began with and one for each line. */
 static struct taken whole(size_t n, uint64_t place, size_t most)
 {
     struct taken t = begin(place);
+    struct plain_tally first;
+    size_t i;
+    some_tally(&t.tally);
+    first = t.tally;
     while (t.bytes < n)
         if (!chunk(&t, some_cut(t.bytes, n, most))) {
             size_t fits = (size_t)(UINT64_MAX - t.receiver.place);
@@ -143,6 +208,9 @@ static struct taken whole(size_t n, uint64_t place, size_t most)
                 fail("60 is in another place");
             break;
         }
+    for (i = 1; i < 4; i++)
+        if (t.noted[i] + t.tally.lines[i] != first.lines[i] + t.told[i])
+            fail("a number of the tally is not the count of such lines");
     return t;
 }
 
@@ -322,11 +390,111 @@ static void sixty(void)
         fail("a chunk is refused in another place");
 }
 
+/* ---- the tally: one line of each kind, whose number has room for one more, and then for none */
+
+static struct taken tallied(uint64_t place, uint64_t read, uint64_t refused, uint64_t dropped)
+{
+    struct taken t = begin(place);
+    t.tally.lines[1] = read;
+    t.tally.lines[2] = refused;
+    t.tally.lines[3] = dropped;
+    t.clears = 0;
+    return t;
+}
+
+static void numbers_are(const struct taken *t, uint64_t read, uint64_t refused, uint64_t dropped)
+{
+    if (t->tally.lines[1] != read || t->tally.lines[2] != refused || t->tally.lines[3] != dropped)
+        fail("other numbers of the tally than the paper's");
+}
+
+/* that nothing of the step was done */
+static void not_done(const struct taken *t, unsigned refusal, size_t bytes, uint64_t kept)
+{
+    if (t->last.refusal != refusal || t->last.taken != 0 || t->last.line != KAMZHOR_NO_LINE || t->last.place != 0 || t->last.frame.refusal != 0)
+        fail("another refusal than the paper's");
+    if (t->bytes != bytes || t->receiver.place != t->place + bytes || t->receiver.size != kept)
+        fail("a step that is refused moves the receiver");
+}
+
+static void seventy_six(void)
+{
+    static const struct {
+        size_t n;
+        const char *bytes;
+    } kinds[4] = {{2, "A\n"}, {8, "\r\xA2\x0F\x03\x30\x48\x2F\n"}, {2, "\r\n"}, {2, "\r\r"}};
+    struct taken t;
+    size_t kind, cut;
+    doing = "76";
+    for (kind = 0; kind < 4; kind++) {
+        size_t n = kinds[kind].n;
+        uint64_t open = kind == 3 ? 1 : 0; /* a second 13 opens another frame */
+        put(n, kinds[kind].bytes);
+        for (cut = 0; cut < n; cut++) { /* however it is cut; what comes before the line's last byte is taken */
+            uint64_t kept = kind ? cut : 0;
+            /* room for one more, though the other numbers are full */
+            t = tallied(5, MOST - (kind == 1), MOST - (kind == 2), MOST - (kind == 3));
+            if (!chunk(&t, cut) || !chunk(&t, n) || t.last.line != kind || t.receiver.size != open)
+                fail("a line that the tally has room for is not told");
+            numbers_are(&t, MOST, MOST, MOST);
+            /* room for none: of this one number, and then of all */
+            t = tallied(5, kind == 1 ? MOST : 0, kind == 2 ? MOST : 0, kind == 3 ? MOST : 0);
+            if (!chunk(&t, cut) || chunk(&t, n) != (kind == 0))
+                fail("a line that the tally has no room for is told, or no line refused");
+            if (kind)
+                not_done(&t, KAMZHOR_TALLY_FULL, cut, kept);
+            numbers_are(&t, kind == 1 ? MOST : 0, kind == 2 ? MOST : 0, kind == 3 ? MOST : 0);
+            t = tallied(5, MOST, MOST, MOST);
+            if (!chunk(&t, cut) || chunk(&t, n) != (kind == 0))
+                fail("a line that a full tally has no room for is told, or no line refused");
+            numbers_are(&t, MOST, MOST, MOST);
+            /* cleared, the same step is done */
+            if (kind) {
+                not_done(&t, KAMZHOR_TALLY_FULL, cut, kept);
+                clear(&t);
+                if (!chunk(&t, n) || t.last.line != kind || t.last.place != 5 || t.receiver.size != open)
+                    fail("a step is not done once the tally is cleared");
+                numbers_are(&t, kind == 1, kind == 2, kind == 3);
+            }
+            /* 76 goes ahead of 60; without a line, or with room for it, 60 is told */
+            t = tallied(UINT64_MAX - n + 1, kind == 1 ? MOST : 0, kind == 2 ? MOST : 0, kind == 3 ? MOST : 0);
+            if (!chunk(&t, cut) || chunk(&t, n))
+                fail("a chunk past the largest place is taken");
+            not_done(&t, kind ? KAMZHOR_TALLY_FULL : KAMZHOR_PAST_LARGEST, cut, kept);
+            numbers_are(&t, kind == 1 ? MOST : 0, kind == 2 ? MOST : 0, kind == 3 ? MOST : 0);
+            clear(&t);
+            if (chunk(&t, n))
+                fail("a chunk past the largest place is taken");
+            not_done(&t, KAMZHOR_PAST_LARGEST, cut, kept);
+            numbers_are(&t, 0, 0, 0);
+        }
+    }
+    /* in the middle of a chunk: the steps before it stay done */
+    put(15, "\r\xA2\x0F\x03\x30\x48\x2F\n\r\n\r\r\n\r\x41");
+    t = tallied(0, 7, MOST, MOST - 1);
+    if (chunk(&t, 15))
+        fail("a line that the tally has no room for is told");
+    not_done(&t, KAMZHOR_TALLY_FULL, 8, 0);
+    numbers_are(&t, 8, MOST, MOST - 1);
+    t.clears = 1;
+    if (!chunk(&t, 15) || t.receiver.size != 2 || t.receiver.start != 13)
+        fail("what is left of a chunk is not taken once the tally is cleared");
+    numbers_are(&t, 0, 2, 1);
+    if (t.told[1] != 1 || t.told[2] != 2 || t.told[3] != 1 || t.noted[1] != 8 || t.noted[2] != MOST || t.noted[3] != MOST - 1)
+        fail("other lines are told than the paper's");
+    /* no bytes at all */
+    t = tallied(UINT64_MAX, MOST, MOST, MOST);
+    if (!chunk(&t, 0))
+        fail("an empty chunk is refused");
+    numbers_are(&t, MOST, MOST, MOST);
+}
+
 /* ---- receivers that no call made */
 
-static struct kamzhor_step step_of(struct kamzhor_receiver receiver, const uint8_t *bytes, size_t n)
+static struct kamzhor_step step_of(struct kamzhor_receiver receiver, const struct plain_tally *from, const uint8_t *bytes, size_t n)
 {
     static struct plain_step want;
+    struct plain_tally to = *from;
     struct plain_receiver before;
     int at_end = (int)below(2);
     uint8_t *lent = lend(chunks, n, at_end);
@@ -336,35 +504,36 @@ static struct kamzhor_step step_of(struct kamzhor_receiver receiver, const uint8
     before.start = receiver.start;
     before.size = receiver.size;
     memcpy(before.bytes, receiver.bytes, sizeof before.bytes);
-    plain_step_of(&before, bytes, n, &want);
-    return step(receiver, lent, n, &want);
+    plain_step_of(&before, &to, bytes, n, &want);
+    return step(receiver, from, lent, n, &want, &to);
 }
 
 static void strangers(void)
 {
     static const uint64_t sizes[] = {0, 1, 2, 8, 492, 493, 494, 495, 496, UINT64_MAX};
     struct kamzhor_receiver r = kamzhor_receiver(3);
+    struct plain_tally tally = {{0, 0, 0, 0}};
     struct kamzhor_step a;
     size_t round, i, data;
     doing = "receivers that no call made";
     /* no frame is open, though bytes are there, and a start past the place */
     r.start = 9;
     memset(r.bytes, 7, sizeof r.bytes);
-    a = step_of(r, (const uint8_t *)"A\n", 2);
+    a = step_of(r, &tally, (const uint8_t *)"A\n", 2);
     if (a.line != KAMZHOR_NO_LINE || a.taken != 2 || a.receiver.place != 5 || a.receiver.start != 9 || a.receiver.size != 0 || a.receiver.bytes[493] != 7)
         fail("what stands there outside a frame does not stay");
-    a = step_of(r, (const uint8_t *)"A\r", 2);
+    a = step_of(r, &tally, (const uint8_t *)"A\r", 2);
     if (a.line != KAMZHOR_NO_LINE || a.receiver.start != 4 || a.receiver.size != 1 || a.receiver.bytes[0] != 13 || a.receiver.bytes[493] != 0)
         fail("a 13 does not open a frame of its own");
     /* more is kept than there is room for */
     r.size = UINT64_MAX;
-    a = step_of(r, (const uint8_t *)"A\n\n", 3);
+    a = step_of(r, &tally, (const uint8_t *)"A\n\n", 3);
     if (a.line != KAMZHOR_LINE_REFUSED || a.taken != 2 || a.place != 9 || a.frame.refusal != KAMZHOR_LONG_MESSAGE || a.receiver.place != 5
         || a.receiver.start != 0)
         fail("a frame of more bytes than are kept is not refused 5");
     /* what is kept begins with no 13 */
     r.size = 1;
-    a = step_of(r, (const uint8_t *)"\n", 1);
+    a = step_of(r, &tally, (const uint8_t *)"\n", 1);
     if (a.line != KAMZHOR_LINE_REFUSED || a.place != 9 || a.frame.refusal != KAMZHOR_NOT_FRAMED)
         fail("what is kept is not read as it stands");
     for (round = 0; round < 50 * STREAMS; round++) {
@@ -376,7 +545,8 @@ static void strangers(void)
             r.bytes[i] = below(8) ? (uint8_t)(below(4) ? 65 : 13) : some_byte();
         if (below(2))
             r.bytes[0] = 13;
-        step_of(r, stream + from, n - from);
+        some_tally(&tally);
+        step_of(r, &tally, stream + from, n - from);
     }
 }
 
@@ -425,14 +595,16 @@ static void seeded(void)
 
 int main(void)
 {
-    static const unsigned wanted[] = {1, 2, 3, 4, 5, 7, 8, 9, 60};
+    static const unsigned wanted[] = {1, 2, 3, 4, 5, 7, 8, 9, 60, 76};
     size_t i;
     chunks = ground(LONG);
+    tallies = ground(sizeof(struct kamzhor_tally));
     vectors();
     places();
     limits();
     runaways();
     sixty();
+    seventy_six();
     strangers();
     seeded();
     doing = "count";
@@ -446,6 +618,6 @@ int main(void)
         if (numbers[wanted[i]] < STREAMS / 10)
             fail("too few of one number");
     }
-    printf("host: %lu steps compared, each with closed pages behind or before\n", calls);
+    printf("host: %lu steps compared, chunk and tally each with closed pages behind or before\n", calls);
     return 0;
 }

@@ -26,9 +26,12 @@ use Rattle.values.proofs.Sized.{kind-unknown, size-le, half-le, kind-positive, 
 use Rattle.values.proofs.Refusals.{read-is, read-none}
 use Rattle.values.specs.declared.Value.{Value}
 use Rattle.values.specs.declared.Value.the-variants.{Natural, Negative}
-use Rattle.receiver.specs.Receiver.{Starts, Steps}
+use Rattle.receiver.specs.Receiver.{Starts}
 use Rattle.receiver.specs.declared.Receiver.{Receiver}
-use Rattle.receiver.specs.declared.Stepped.{Stepped}
+use Rattle.tally.specs.Tally.{CountsWhere}
+use Rattle.tally.specs.Count.{stepWith}
+use Rattle.tally.specs.declared.Stepped.{Stepped}
+use Rattle.tally.specs.declared.Tally.{Tally}
 use Rattle.kamzhor.specs.Host.{GivesRemainder, GivesFrame, GivesValue, GivesReceiver, GivesStep}
 use Rattle.telegram.proofs.Faulty.{place-told, no-other-place}
 use Rattle.kamzhor.specs.Host.{told, frameNumber, frameGiven, valueNumber, valueFound, valueGiven, isSmall, meant, stepGiven}
@@ -61,8 +64,8 @@ gives-value-settled kind bytes element = settled _
 pub gives-receiver-settled : (place : ℕ) → Settled (GivesReceiver place)
 gives-receiver-settled place = settled _
 
-pub gives-step-settled : (r : Receiver) (chunk : List ℕ) → Settled (GivesStep r chunk)
-gives-step-settled r chunk = settled _
+pub gives-step-settled : (r : Receiver) (t : Tally) (chunk : List ℕ) → Settled {A = StepAnswer × Tally} (λ o. GivesStep r t chunk (o .0) (o .1))
+gives-step-settled r t chunk = settled-with _ _
 
 -- ---- nothing is cut
 
@@ -111,8 +114,15 @@ value-as-read kind bytes element p g = g ∙ ap valueGiven (sym p)
 pub receiver-as-started : (place : ℕ) {q r : Receiver} → Starts place q → GivesReceiver place r → r ≡ q
 receiver-as-started place p g = g ∙ sym p
 
-pub step-as-taken : (r : Receiver) (chunk : List ℕ) {s : Stepped} {a : StepAnswer} → Steps r chunk s → GivesStep r chunk a → a ≡ stepGiven s
-step-as-taken r chunk p g = g ∙ ap stepGiven (sym p)
+-- a step and its tally
+pub step-as-taken : (r : Receiver) (t : Tally) (chunk : List ℕ) {s : Stepped} {a : StepAnswer} {x y : Tally}
+    → CountsWhere t r chunk s x → GivesStep r t chunk a y → (a ≡ stepGiven s) × (y ≡ x)
+step-as-taken r t chunk p g = (g .0 ∙ ap stepGiven (sym (p .0)), g .1 ∙ sym (p .1))
+
+-- so what the tally's crate proves of any steps and clearings holds of the host's: each step is one of those
+pub step-is-one : (r : Receiver) (t : Tally) (chunk : List ℕ) {a : StepAnswer} {t′ : Tally} → GivesStep r t chunk a t′
+    → CountsWhere t r chunk (stepWith t r chunk) t′ × (a ≡ stepGiven (stepWith t r chunk))
+step-is-one r t chunk g = ((refl, g .1), g .0)
 
 -- ---- the number is the paper's: "Each is given exactly when its condition holds and no earlier one does."
 

@@ -18,8 +18,10 @@ use Rattle.values.specs.declared.Value.the-variants.{Natural, Negative}
 use Rattle.lines.specs.declared.Event.{Event}
 use Rattle.lines.specs.declared.Placed.{Placed}
 use Rattle.receiver.specs.declared.Receiver.{Receiver}
-use Rattle.receiver.specs.declared.Answer.{Answer}
-use Rattle.receiver.specs.declared.Stepped.{Stepped}
+use Rattle.tally.specs.Tally.{stepRefusal, steppedBy, tallyBy}
+use Rattle.tally.specs.declared.Answer.{Answer}
+use Rattle.tally.specs.declared.Stepped.{Stepped}
+use Rattle.tally.specs.declared.Tally.{Tally}
 use Rattle.kamzhor.specs.declared.FrameAnswer.{FrameAnswer}
 use Rattle.kamzhor.specs.declared.ValueAnswer.{ValueAnswer}
 use Rattle.kamzhor.specs.declared.StepAnswer.{StepAnswer}
@@ -30,7 +32,8 @@ use Rattle.values.specs.declared.Reading as vreading
 use Rattle.values.specs.declared.Reading.the-variants as vreadings
 use Rattle.lines.specs.declared.Event.the-variants as event
 use Rattle.receiver.specs.Receiver as receiver
-use Rattle.receiver.specs.declared.Answer.the-variants as answer
+use Rattle.tally.specs.Tally as tally
+use Rattle.tally.specs.declared.Answer.the-variants as answer
 
 -- the number that an answer tells: none where its refusal is 0
 abbrev pub told : ℕ → Option ℕ
@@ -97,6 +100,10 @@ lineKind (event.Refused f) = 2
 lineKind event.Dropped = 3
 lineKind event.Open = 4
 
+-- one where a line is of that kind
+abbrev pub oneIf : ℕ → ℕ → ℕ
+oneIf line kind = cond (eqb line kind) 1 0
+
 -- what a line says of its frame: the frame reader's answer, where there is one
 abbrev pub lineFrame : Event → FrameAnswer
 lineFrame (event.Read t) = frameGiven (Telegram t)
@@ -113,7 +120,7 @@ withLine r taken e =
 
 abbrev pub answerGiven : Receiver → ℕ → Answer → StepAnswer
 answerGiven r taken answer.Nothing = noLine r taken 0
-answerGiven r taken (answer.Refused f) = noLine r taken (receiver.faultNumber f)
+answerGiven r taken (answer.Refused f) = noLine r taken (tally.faultNumber f)
 answerGiven r taken (answer.Line e) = withLine r taken e
 
 abbrev pub stepGiven : Stepped → StepAnswer
@@ -138,6 +145,6 @@ GivesValue kind bytes element r = r ≡ valueGiven (readValue kind bytes element
 abbrev pub GivesReceiver : ℕ → Receiver → Type 0
 GivesReceiver place r = r ≡ receiver.outsideAt place
 
--- `kamzhor_step`: a step of any receiver, one that no call made too, and the receiver behind it
-abbrev pub GivesStep : Receiver → List ℕ → StepAnswer → Type 0
-GivesStep r chunk a = a ≡ stepGiven (receiver.stepOf r chunk)
+-- `kamzhor_step`: a step of any receiver, one that no call made too, with any tally, and the receiver and the tally behind it
+abbrev pub GivesStep : Receiver → Tally → List ℕ → StepAnswer → Tally → Type 0
+GivesStep r t chunk a t′ = (a ≡ stepGiven (steppedBy (stepRefusal t r chunk) r chunk)) × (t′ ≡ tallyBy (stepRefusal t r chunk) t r chunk)

@@ -1,6 +1,7 @@
 // What the C capture host calls; include/kamzhor.h is its side of this file. Each call is thin
 // over a proved function and passes that function's promise on: specs/Host.antt says how.
 use receiver::Receiver;
+use tally::Tally;
 ghost use Rattle.kamzhor.specs.Host.{GivesRemainder, GivesFrame, GivesValue, GivesReceiver, GivesStep};
 ghost use Rattle.kamzhor.specs.Host.{frameNumber, frameGiven, valueNumber, valueFound, isSmall, noLine, lineKind, lineFrame, stepGiven};
 ghost use Rattle.values.specs.Values.{faultNumber};
@@ -29,10 +30,10 @@ pub struct ValueAnswer {
     pub magnitude: u64,
 }
 
-// A step's outcome. `refusal` is 60 where none of the chunk was taken, or 0. `line` says what became
-// of the frame whose line the last byte taken ended: 1 read, 2 refused, 3 dropped; 0 where none
-// ended. `place` is that of the frame's 13, and `frame` what the line says of it. What is not said
-// is 0.
+// A step's outcome. `refusal` is 76 or 60 where the step was not done and none of the chunk was
+// taken, or 0. `line` says what became of the frame whose line the last byte taken ended: 1 read,
+// 2 refused, 3 dropped; 0 where none ended. `place` is that of the frame's 13, and `frame` what the
+// line says of it. What is not said is 0.
 #[repr(C)]
 pub struct StepAnswer {
     pub refusal: u32,
@@ -41,6 +42,12 @@ pub struct StepAnswer {
     pub place: u64,
     pub frame: FrameAnswer,
     pub receiver: Receiver,
+}
+
+// The same with the tally afterwards.
+pub struct StepCounted {
+    pub tally: Tally,
+    pub answer: StepAnswer,
 }
 
 #[no_mangle]
@@ -82,13 +89,29 @@ pub extern "C" fn kamzhor_receiver(place: u64) -> Receiver
 }
 
 // Takes the bytes of the chunk up to and including the one that ends the next line, or all of them
-// where none does; what is left of it is for the next step. A chunk that would carry the place past
-// the largest is refused, and none of it is taken.
+// where none does; what is left of it is for the next step. The tally that is lent is changed where
+// it lies. A line that would carry its number past the most is refused, ahead of a chunk that would
+// carry the place past the largest: then the step is not done, and the tally stays as it was.
 #[no_mangle]
-pub extern "C" fn kamzhor_step(receiver: Receiver, chunk: &[u8]) -> StepAnswer
-    ensures { λ r. ⌜ GivesStep receiver (now (chunk .entry)) r ⌝ }
+pub extern "C" fn kamzhor_step(receiver: Receiver, tally: &mut Tally, chunk: &[u8]) -> StepAnswer
+    ensures { λ r. ⌜ GivesStep receiver (now (tally .entry)) (now (chunk .entry)) r (now (tally .exit)) ⌝ }
 {
-    of_step(receiver::step(receiver, chunk))
+    let next = step_counted(*tally, receiver, chunk);
+    *tally = next.tally;
+    next.answer
+}
+
+// The same step, the tally in and back by value.
+fn step_counted(tally: Tally, receiver: Receiver, chunk: &[u8]) -> StepCounted
+    ensures { λ r. ⌜ GivesStep receiver tally (now (chunk .entry)) (r .answer) (r .tally) ⌝ }
+{
+    let counted = tally::count_step(tally, receiver, chunk);
+    let after = counted.tally;
+    let stepped = counted.stepped;
+    StepCounted {
+        tally: after,
+        answer: of_step(stepped),
+    }
 }
 
 fn of_reading(reading: telegram::Reading) -> FrameAnswer
@@ -153,17 +176,15 @@ fn of_value(value: values::Value) -> ValueAnswer
     }
 }
 
-fn of_step(stepped: receiver::Stepped) -> StepAnswer
+fn of_step(stepped: tally::Stepped) -> StepAnswer
     ensures { λ r. ⌜ r ≡ stepGiven stepped ⌝ }
 {
     let receiver = stepped.receiver;
     let answer = stepped.answer;
     match answer {
-        receiver::Answer::Nothing => no_line(receiver, stepped.taken, 0),
-        receiver::Answer::Refused(fault) => {
-            no_line(receiver, stepped.taken, receiver::number(fault))
-        }
-        receiver::Answer::Line(line) => {
+        tally::Answer::Nothing => no_line(receiver, stepped.taken, 0),
+        tally::Answer::Refused(fault) => no_line(receiver, stepped.taken, tally::number(fault)),
+        tally::Answer::Line(line) => {
             let event = line.event;
             StepAnswer {
                 refusal: 0,
