@@ -26,3 +26,5 @@ pub use Rattle.receiver.proofs.Sample.{cut, cut-read}
 pub use Rattle.lister.proofs.Sample.{poured-text, end-text, listed-here}
 -- what a C host is told of a line
 pub use Rattle.kamzhor.proofs.Steps.{line-none, line-read, line-refused, line-dropped}
+-- and of the tally that it lends to each step: one more in the number of the line that is told, and no other changed
+pub use Rattle.kamzhor.proofs.Steps.{step-counts, step-own}

@@ -9,9 +9,12 @@ use lanes_calls::Hall;
 use libc::STDERR_FILENO;
 use libc::STDIN_FILENO;
 use libc::STDOUT_FILENO;
-use lister::Listing;
 use overdue_calls::ENTRIES;
 use overdue_calls::UNUSED;
+use receiver_calls::Line;
+use scan::Scan;
+use scan_calls::Hearers;
+use scan_calls::Shift;
 use varia::FilterBox;
 use varia_calls::Rig;
 use words::Words;
@@ -23,15 +26,17 @@ const LONGEST: usize = 65536;
 // characters of its line.
 const LONGEST_ANSWER: usize = 16 * LONGEST;
 
-// What the calls so far have made. The bench and the filter box count once one was made.
+// What the calls so far have made. The bench, the filter box and the scan count once one was made.
 struct Made {
     desk: Desk,
     lanes: Lanes,
     filters: FilterBox,
     has_box: bool,
+    scan: Scan,
+    has_scan: bool,
     bench: Bench,
     has_bench: bool,
-    listing: Listing,
+    line: Line,
 }
 
 // What is gathered of the line that has not ended yet, how many answers were written, and whether
@@ -108,9 +113,11 @@ fn nothing() -> Made {
         lanes: lanes::fresh(),
         filters: varia::make(0, 0),
         has_box: false,
+        scan: scan::make(0),
+        has_scan: false,
         bench: bench,
         has_bench: false,
-        listing: lister::begin(0),
+        line: receiver_calls::begin(0, tally::cleared()),
     }
 }
 
@@ -204,8 +211,8 @@ fn answer_to(line: &[u8], gathered: Gathered, out: &mut [u8]) -> Said {
     Said { made: made, at: 0 }
 }
 
-// Which call it is: those on the desk, those on the lanes, those on the filter box, those on the bench, those on the
-// receiver, and those that keep nothing.
+// Which call it is: those on the desk, those on the lanes, those on the filter box, those on the scan,
+// those on the bench, those on the receiver and its tally, and those that keep nothing.
 fn answer(made: Made, line: &[u8], out: &mut [u8]) -> Said {
     let w = words::word(words::start(), line);
     if words::is(w, line, b"desk.expall") {
@@ -220,10 +227,13 @@ fn answer(made: Made, line: &[u8], out: &mut [u8]) -> Said {
     if words::starts(w, line, b"varia.") {
         return answer_varia(made, w, line, out);
     }
+    if words::starts(w, line, b"scan.") {
+        return answer_scan(made, w, line, out);
+    }
     if words::starts(w, line, b"bench.") {
         return answer_bench(made, w, line, out);
     }
-    if words::starts(w, line, b"rx.") {
+    if is_heard(w, line) {
         return answer_rx(made, w, line, out);
     }
     Said {
@@ -232,47 +242,56 @@ fn answer(made: Made, line: &[u8], out: &mut [u8]) -> Said {
     }
 }
 
+// A call on the receiver, or on its tally.
+fn is_heard(w: Words, line: &[u8]) -> bool {
+    words::starts(w, line, b"rx.") || words::starts(w, line, b"tally.")
+}
+
 fn answer_desk(made: Made, w: Words, line: &[u8], out: &mut [u8]) -> Said {
     let before = made.desk;
     let told = desk_calls::answer(before, w, line, out);
     let after = told.desk;
     let heard = told.heard;
-    let filters = heard_by(made.filters, heard);
+    let hearers = scan_calls::told(hearing(made.filters, made.scan), heard);
+    let filters = hearers.filters;
+    let scan = hearers.scan;
     let lanes = lanes_before(made.lanes, heard);
+    let stays = !is_anew(heard);
     let mut next = made;
     next.desk = after;
     next.lanes = lanes;
     next.filters = filters;
-    next.has_box = made.has_box && !is_anew(heard);
+    next.has_box = made.has_box && stays;
+    next.scan = scan;
+    next.has_scan = made.has_scan && stays;
     Said {
         made: next,
         at: told.at,
     }
 }
 
-// Everything due expires. The filter box is told of each closing.
+// Everything due expires. The filter box and the scan are told of each closing.
 fn answer_all(made: Made, w: Words, line: &[u8], out: &mut [u8]) -> Said {
     let mut closed = [UNUSED; 3 * ENTRIES];
     let before = made.desk;
     let swept = overdue_calls::answer(before, w, line, &mut closed, out);
     let after = swept.desk;
-    let filters = varia_calls::told_all(made.filters, &closed);
+    let hearers = scan_calls::told_all(hearing(made.filters, made.scan), &closed);
+    let filters = hearers.filters;
+    let scan = hearers.scan;
     let mut next = made;
     next.desk = after;
     next.filters = filters;
+    next.scan = scan;
     Said {
         made: next,
         at: swept.at,
     }
 }
 
-// The filter box is told what the desk answered.
-fn heard_by(filters: FilterBox, heard: Heard) -> FilterBox {
-    match heard {
-        Heard::Reply(booking) => varia::told_reply(filters, booking),
-        Heard::Closing(closing) => varia::told_closing(filters, closing),
-        _ => filters,
-    }
+// Who is told what the desk answered.
+fn hearing(filters: FilterBox, scan: Scan) -> Hearers {
+    Hearers { filters, scan }
 }
 
 // A new desk has empty lanes in front of it.
@@ -303,7 +322,7 @@ fn answer_lane(made: Made, w: Words, line: &[u8], out: &mut [u8]) -> Said {
     }
 }
 
-// A new desk has no box.
+// A new desk has no box and no scan.
 fn is_anew(heard: Heard) -> bool {
     match heard {
         Heard::Anew => true,
@@ -333,6 +352,28 @@ fn answer_varia(made: Made, w: Words, line: &[u8], out: &mut [u8]) -> Said {
     }
 }
 
+fn answer_scan(made: Made, w: Words, line: &[u8], out: &mut [u8]) -> Said {
+    let asked = made.desk;
+    let asking = made.scan;
+    let before = Shift {
+        desk: asked,
+        scan: asking,
+        made: made.has_scan,
+    };
+    let scanned = scan_calls::answer(before, w, line, out);
+    let shift = scanned.shift;
+    let desk = shift.desk;
+    let scan = shift.scan;
+    let mut next = made;
+    next.desk = desk;
+    next.scan = scan;
+    next.has_scan = shift.made;
+    Said {
+        made: next,
+        at: scanned.at,
+    }
+}
+
 fn answer_bench(made: Made, w: Words, line: &[u8], out: &mut [u8]) -> Said {
     let before = made.bench;
     let shown = bench_calls::answer(before, made.has_bench, w, line, out);
@@ -347,11 +388,11 @@ fn answer_bench(made: Made, w: Words, line: &[u8], out: &mut [u8]) -> Said {
 }
 
 fn answer_rx(made: Made, w: Words, line: &[u8], out: &mut [u8]) -> Said {
-    let before = made.listing;
+    let before = made.line;
     let heard = receiver_calls::answer(before, w, line, out);
-    let after = heard.listing;
+    let after = heard.line;
     let mut next = made;
-    next.listing = after;
+    next.line = after;
     Said {
         made: next,
         at: heard.at,

@@ -1,6 +1,5 @@
 // The calls on the filter box. Each takes the box and the desk and gives them back as they are
 // afterwards. A part of the test tool `rehearsal`.
-use desk::Closing;
 use desk::Desk;
 use varia::AfterAsk;
 use varia::Asking;
@@ -340,24 +339,4 @@ fn bad(rig: Rig, out: &mut [u8]) -> Filtered {
         rig: rig,
         at: answers::bad_line(out),
     }
-}
-
-// The box is told of each ticket that was closed: a job, an address and a folder each, and what is no
-// address is no ticket.
-pub fn told_all(filters: FilterBox, closed: &[u32]) -> FilterBox {
-    let n = closed.len() / 3;
-    let mut next = filters;
-    let mut i = 0;
-    while i < n {
-        next = told_one(next, closed[3 * i], closed[3 * i + 1], closed[3 * i + 2]);
-        i += 1;
-    }
-    next
-}
-
-fn told_one(filters: FilterBox, job: u32, address: u32, folder: u32) -> FilterBox {
-    if 255 < address {
-        return filters;
-    }
-    varia::told_closing(filters, Closing::Closed(job, (address % 256) as u8, folder))
 }

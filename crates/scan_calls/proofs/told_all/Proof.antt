@@ -2,8 +2,8 @@
 -- Assumes nothing.
 use Prim.Native.Nat.{_≤_, _-_}
 use borrow.Author.Needs.{needs}
-use Rattle.varia_calls.proofs.told_all.Statement.{statement}
-use Rattle.varia_calls.proofs.told_all.Tie as tie
+use Rattle.scan_calls.proofs.told_all.Statement.{statement}
+use Rattle.scan_calls.proofs.told_all.Tie as tie
 
 abbrev Inv-loop : tie.InvT-loop
 Inv-loop closed n next₀ i₀ next i = i ≤ n
