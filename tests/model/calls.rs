@@ -1,16 +1,18 @@
-//! Call scripts: a line is parsed, run on the desk, the lanes, the box, the bench, the receiver or a sheet, and its
-//! answer formatted.
+//! Call scripts: a line is parsed, run on the desk, the lanes, the box, the scan, the bench, the receiver with its
+//! tally or a sheet, and its answer formatted.
 
 use crate::bench::{Bench, Register};
 use crate::catalogue;
-use crate::desk::{Closed, Desk, Opened, Request, Ticket};
+use crate::desk::{Closed, Closing, Desk, Opened, Request, Ticket};
 use crate::lanes::Lanes;
 use crate::receiver::{Fed, Receiver};
 use crate::remainder::remainder;
+use crate::scan::{self, Scan, Step};
 use crate::sheet::{self, Head, Setting};
+use crate::tally::Tally;
 use crate::telegram::{self, Message, No, Refusal};
 use crate::values;
-use crate::varia::{self, Closing, Edge, Out, Shown, Varia, Wish};
+use crate::varia::{self, Edge, Out, Shown, Varia, Wish};
 use std::fmt::Display;
 
 /// The longest line, its newline not counted, that is still a call.
@@ -45,6 +47,10 @@ enum Call {
     LaneDump,
     VariaNew { job: u32, module: u8 },
     OnVaria(VariaCall),
+    ScanNew { job: u32 },
+    OnScan(ScanCall),
+    TallySet { tally: Tally },
+    TallyGet,
     RxNew { place: u64 },
     RxFeed { chunk: Vec<u8> },
     RxEnd,
@@ -66,6 +72,12 @@ enum VariaCall {
     Ask { wish: Wish, wait: u32, clock: u32, buf: Vec<u8> },
     Display { fresh: Vec<u8>, kept: Vec<u8> },
     Moving { status: u16 },
+    Dump,
+}
+
+/// A call that needs a scan.
+enum ScanCall {
+    Step { clock: u32, buf: Vec<u8> },
     Dump,
 }
 
@@ -210,6 +222,11 @@ fn parse_call(name: &[u8], words: &mut Words) -> Option<Call> {
         b"varia.display" => Call::OnVaria(VariaCall::Display { fresh: words.bytes()?, kept: words.bytes()? }),
         b"varia.moving" => Call::OnVaria(VariaCall::Moving { status: words.short_number()? }),
         b"varia.dump" => Call::OnVaria(VariaCall::Dump),
+        b"scan.new" => Call::ScanNew { job: words.number()? },
+        b"scan.step" => Call::OnScan(ScanCall::Step { clock: words.number()?, buf: words.bytes()? }),
+        b"scan.dump" => Call::OnScan(ScanCall::Dump),
+        b"tally.set" => Call::TallySet { tally: parse_tally(words)? },
+        b"tally.get" => Call::TallyGet,
         b"rx.new" => Call::RxNew { place: words.long_number()? },
         b"rx.feed" => Call::RxFeed { chunk: words.bytes()? },
         b"rx.end" => Call::RxEnd,
@@ -245,6 +262,11 @@ fn parse_wish(wish: Wish, words: &mut Words) -> Option<Call> {
     Some(Call::OnVaria(VariaCall::Ask { wish, wait, clock, buf: words.bytes()? }))
 }
 
+/// READ REFUSED DROPPED of a tally.
+fn parse_tally(words: &mut Words) -> Option<Tally> {
+    Some(Tally { read: words.number()?, refused: words.number()?, dropped: words.number()? })
+}
+
 /// SETTINGS, `-` for none: up to 200 of them, parted by semicolons.
 pub fn parse_settings(word: &[u8]) -> Option<Vec<Setting>> {
     if word == b"-" {
@@ -266,20 +288,31 @@ fn parse_setting(named: &[u8]) -> Option<Setting> {
     Some(Setting { head, value })
 }
 
-/// What the calls work on: the desk and its lanes, the box and the bench once there is one, and the receiver.
+/// What the calls work on: the desk and its lanes, the box, the scan and the bench once there is one, the receiver, and
+/// the tally that is lent to it.
 #[derive(Clone)]
 pub struct Rehearsal {
     pub desk: Desk,
     pub lanes: Lanes,
     pub varia: Option<Varia>,
+    pub scan: Option<Scan>,
     pub bench: Option<Bench>,
     pub receiver: Receiver,
+    pub tally: Tally,
 }
 
 impl Rehearsal {
-    /// A fresh desk with fresh lanes, no box, no bench, and a fresh receiver at place 0.
+    /// A fresh desk with fresh lanes, no box, no scan, no bench, a fresh receiver at place 0, and a cleared tally.
     pub fn new() -> Rehearsal {
-        Rehearsal { desk: Desk::new(), lanes: Lanes::new(), varia: None, bench: None, receiver: Receiver::new(0) }
+        Rehearsal {
+            desk: Desk::new(),
+            lanes: Lanes::new(),
+            varia: None,
+            scan: None,
+            bench: None,
+            receiver: Receiver::new(0),
+            tally: Tally::cleared(),
+        }
     }
 
     /// The answer line to a call line, both without their newline.
@@ -326,8 +359,15 @@ impl Rehearsal {
                 Some(varia) => run_on_varia(varia, &mut self.desk, call),
                 None => "no box".to_string(),
             },
+            Call::ScanNew { job } => ok(self.new_scan(job)),
+            Call::OnScan(call) => match &mut self.scan {
+                Some(scan) => run_on_scan(scan, &mut self.desk, call),
+                None => "no scan".to_string(),
+            },
+            Call::TallySet { tally } => ok(self.set_tally(tally)),
+            Call::TallyGet => ok(tally_fields(self.tally)),
             Call::RxNew { place } => ok(self.new_receiver(place)),
-            Call::RxFeed { chunk } => fed(self.receiver.feed(&chunk)),
+            Call::RxFeed { chunk } => fed(self.receiver.feed(&chunk, &mut self.tally)),
             Call::RxEnd => ok(format!("text={}", self.receiver.rest().replace('\n', "\\n"))),
             Call::SheetWrite { settings, buf } => lent(buf, |room| sheet::write(&settings, room).map(length_field)),
             Call::SheetCheck { sheet } => plain(sheet::check(&sheet).map(|held| format!("count={}", held.len()))),
@@ -343,11 +383,13 @@ impl Rehearsal {
         Ok(String::new())
     }
 
-    /// A fresh desk and fresh lanes take the place of those there were, and there is no box; no fields are answered.
+    /// A fresh desk and fresh lanes take the place of those there were, and there is neither a box nor a scan; no
+    /// fields are answered.
     fn new_desk(&mut self) -> String {
         self.desk = Desk::new();
         self.lanes = Lanes::new();
         self.varia = None;
+        self.scan = None;
         String::new()
     }
 
@@ -357,44 +399,60 @@ impl Rehearsal {
         String::new()
     }
 
-    /// Tells the box, if there is one, how the ticket on an address was closed.
+    /// A fresh scan takes the place of the one there was, if any, whose ticket stays open; no fields are answered.
+    fn new_scan(&mut self, job: u32) -> String {
+        self.scan = Some(Scan::new(job));
+        String::new()
+    }
+
+    /// Tells the box and the scan, if there are any, how the ticket on an address was closed.
     fn tell(&mut self, address: u8, closing: Closing) {
         if let Some(varia) = &mut self.varia {
             varia.hear(address, closing);
         }
+        if let Some(scan) = &mut self.scan {
+            scan.hear(address, closing);
+        }
     }
 
-    /// Books a reply at the desk and tells the box.
+    /// Books a reply at the desk and tells the box and the scan.
     fn reply(&mut self, frame: &[u8], room: usize) -> Result<(Closed, Message), Refusal> {
         let (closed, reply) = self.desk.reply(frame, room)?;
         self.tell(closed.address, Closing::Booked(reply.type_no));
         Ok((closed, reply))
     }
 
-    /// Cancels a ticket at the desk and tells the box.
+    /// Cancels a ticket at the desk and tells the box and the scan.
     fn cancel(&mut self, job: u32, address: u8, clock: u32) -> Result<Closed, No> {
         let closed = self.desk.cancel(job, address, clock)?;
         self.tell(address, Closing::Lost);
         Ok(closed)
     }
 
-    /// Lets a ticket expire at the desk and tells the box.
+    /// Lets a ticket expire at the desk and tells the box and the scan.
     fn expire(&mut self, clock: u32) -> Result<Closed, No> {
         let closed = self.desk.expire(clock)?;
         self.tell(closed.address, Closing::Lost);
         Ok(closed)
     }
 
-    /// Lets everything due expire at the desk, as far as the list has room, and tells the box of each.
+    /// Lets everything due expire at the desk, as far as the list has room, and tells the box and the scan of each.
     fn expire_all(&mut self, clock: u32, room: usize) -> Vec<Closed> {
         let expired = self.desk.expire_all(clock, room);
         expired.iter().for_each(|closed| self.tell(closed.address, Closing::Lost));
         expired
     }
 
-    /// A fresh receiver takes the place of the one there was; no fields are answered.
+    /// A fresh receiver takes the place of the one there was; no fields are answered. The tally is the caller's, not
+    /// the receiver's, and stays: it is cleared by setting it.
     fn new_receiver(&mut self, place: u64) -> String {
         self.receiver = Receiver::new(place);
+        String::new()
+    }
+
+    /// The tally has these numbers from now on, all 0 where it is cleared; no fields are answered.
+    fn set_tally(&mut self, tally: Tally) -> String {
+        self.tally = tally;
         String::new()
     }
 }
@@ -418,6 +476,14 @@ fn run_on_varia(varia: &mut Varia, desk: &mut Desk, call: VariaCall) -> String {
         VariaCall::Display { fresh, kept } => plain(varia::display(&fresh, &kept).map(display_fields)),
         VariaCall::Moving { status } => ok(format!("moving={}", u8::from(varia::is_moving(status)))),
         VariaCall::Dump => ok(varia_fields(varia)),
+    }
+}
+
+/// Runs a call on the scan there is, above its desk.
+fn run_on_scan(scan: &mut Scan, desk: &mut Desk, call: ScanCall) -> String {
+    match call {
+        ScanCall::Step { clock, buf } => lent(buf, |room| scan.step(desk, clock, room).map(step_fields)),
+        ScanCall::Dump => ok(scan_fields(scan)),
     }
 }
 
@@ -567,6 +633,35 @@ fn varia_fields(varia: &Varia) -> String {
     let shown = |Out { address, edge, value }: Out| format!("{address}:{}:{value}", edge.name());
     let out = varia.out.map_or("-".to_string(), shown);
     format!("short={} long={} out={out}", known(varia.short), known(varia.long))
+}
+
+/// What a step of the scan has come to, and its telegram, if it opened a ticket, for the buffer.
+fn step_fields(step: Step) -> (String, Vec<u8>) {
+    match step {
+        Step::Opened(module, Opened { address, telegram, count }) => {
+            (format!("address={address} module={module} n={} count={count}", telegram.len()), telegram)
+        }
+        Step::Waiting(address) => (format!("waiting={address}"), Vec::new()),
+        Step::Done => ("done=1".to_string(), Vec::new()),
+    }
+}
+
+/// How far the scan is, its ticket that is out, `-` for none, and one letter for each finished turn, `-` for none.
+fn scan_fields(scan: &Scan) -> String {
+    let letter = |shown: &scan::Shown| match shown {
+        scan::Shown::Absent => 'a',
+        scan::Shown::Read => '1',
+        scan::Shown::Refused => '2',
+    };
+    let (done, turns) = (u8::from(scan.is_done()), scan.shown.len());
+    let out = scan.out.map_or("-".to_string(), |address| address.to_string());
+    let letters: String = scan.shown.iter().map(letter).collect();
+    format!("done={done} turns={turns} out={out} results={}", if turns == 0 { "-" } else { &letters })
+}
+
+/// The three numbers of the tally.
+fn tally_fields(Tally { read, refused, dropped }: Tally) -> String {
+    format!("read={read} refused={refused} dropped={dropped}")
 }
 
 /// The entries of a list parted by commas, `-` for none.

@@ -5,6 +5,7 @@ use crate::capture;
 use crate::listing::{list, HEADER};
 use crate::random::Random;
 use crate::receiver::Receiver;
+use crate::tally::Tally;
 use crate::telegram::{END, LONGEST_TELEGRAM, START};
 
 /// A capture shorter than this may be cut at every place.
@@ -61,32 +62,34 @@ fn cuts(random: &mut Random, capture: &[u8]) -> Vec<Vec<usize>> {
     cuts
 }
 
-/// One reading of a capture's bytes joined: the listing of each beginning of it, and the receiver after one chunk.
+/// One reading of a capture's bytes joined: the listing of each beginning of it, and the receiver and the tally after
+/// one chunk.
 struct Joined {
     listings: Vec<String>,
     receiver: Receiver,
+    tally: Tally,
 }
 
 impl Joined {
     /// The joined reading of this capture.
     fn new(capture: &[u8]) -> Joined {
-        let mut receiver = Receiver::new(0);
-        receiver.feed(capture);
-        Joined { listings: (0..=capture.len()).map(|length| list(&capture[..length])).collect(), receiver }
+        let (mut receiver, mut tally) = (Receiver::new(0), Tally::cleared());
+        receiver.feed(capture, &mut tally);
+        Joined { listings: (0..=capture.len()).map(|length| list(&capture[..length])).collect(), receiver, tally }
     }
 
     /// Whether the same capture in these chunks is read alike: after each chunk all lines so far and what is left to
-    /// say, and at the end the receiver itself.
+    /// say, and at the end the receiver itself and the tally.
     fn is_read_alike(&self, chunks: &[&[u8]]) -> bool {
-        let mut receiver = Receiver::new(0);
+        let (mut receiver, mut tally) = (Receiver::new(0), Tally::cleared());
         let mut lines = format!("{HEADER}\n");
         let mut length = 0;
         let alike = chunks.iter().all(|chunk| {
-            lines.extend(receiver.feed(chunk).lines.iter().map(|line| format!("{line}\n")));
+            lines.extend(receiver.feed(chunk, &mut tally).lines.iter().map(|line| format!("{line}\n")));
             length += chunk.len();
             lines.clone() + &receiver.rest() == self.listings[length]
         });
-        alike && receiver == self.receiver
+        alike && receiver == self.receiver && tally == self.tally
     }
 }
 

@@ -8,14 +8,16 @@ use crate::folders::Folders;
 use crate::looks::Looks;
 use crate::places::Places;
 use crate::rests::{opens, Rests};
+use crate::scans::Scans;
 use crate::sheets::Sheets;
 use crate::subject::Subject;
+use crate::tallies::{told, Tallies};
 use crate::telegram::No;
 use crate::turns::Turns;
 use std::collections::BTreeMap;
 
 /// Each call with the numbers its order lists.
-const ORDERS: [(&str, &[No]); 37] = [
+const ORDERS: [(&str, &[No]); 42] = [
     ("rem", &[]),
     ("read", &[1, 2, 3, 4, 5, 6, 7, 8, 9]),
     ("write", &[5, 8, 9, 6]),
@@ -47,8 +49,13 @@ const ORDERS: [(&str, &[No]); 37] = [
     ("varia.display", &[64]),
     ("varia.moving", &[]),
     ("varia.dump", &[]),
+    ("scan.new", &[]),
+    ("scan.step", &[10, 15, 16]),
+    ("scan.dump", &[]),
+    ("tally.set", &[]),
+    ("tally.get", &[]),
     ("rx.new", &[]),
-    ("rx.feed", &[60]),
+    ("rx.feed", &[76, 60]),
     ("rx.end", &[]),
     ("sheet.write", &[79, 68, 69, 57]),
     ("sheet.check", &[65, 66, 67, 68, 69, 70]),
@@ -57,7 +64,7 @@ const ORDERS: [(&str, &[No]); 37] = [
 /// The lines that must also have been said of frames which lie in more than one chunk.
 const OVER_BORDERS: [&str; 4] = ["ok", "refused 5", "dropped", "open"];
 /// What is told of each subject, from a script's calls and answers.
-const SUBJECTS: [fn(&[&[u8]], &[&[u8]]) -> (String, Vec<String>); 9] = [
+const SUBJECTS: [fn(&[&[u8]], &[&[u8]]) -> (String, Vec<String>); 11] = [
     Rests::report,
     Filters::report,
     Places::report,
@@ -67,6 +74,8 @@ const SUBJECTS: [fn(&[&[u8]], &[&[u8]]) -> (String, Vec<String>); 9] = [
     Turns::report,
     Folders::report,
     Altered::report,
+    Scans::report,
+    Tallies::report,
 ];
 /// Stands for a line that begins with the name of no call.
 const NO_CALL: &str = "(no call)";
@@ -79,6 +88,7 @@ enum Way {
     BadLine,
     NoBench,
     NoBox,
+    NoScan,
     Unknown,
 }
 
@@ -91,23 +101,28 @@ fn name(line: &[u8]) -> &'static str {
 }
 
 /// The way an answer line answers a call of this name. Number 3 has a place, and no other number has one. An opening
-/// has a count, and so have its numbers 10 to 16 and 75, but no other number. Of the numbers only a grant's 75 has a
-/// job. A closing has a folder, and no other answer has one.
+/// has a count, and so have its numbers 10 to 16 and 75, but no other number; a step of the scan that opens nothing
+/// waits or is done instead. Of the numbers only a grant's 75 has a job, and only those of a chunk have bytes taken and
+/// lines. A closing has a folder, and no other answer has one.
 fn way(name: &str, answer: &[u8]) -> Way {
     let text = String::from_utf8_lossy(answer);
     let words: Vec<&str> = text.split(' ').collect();
     let has = |field: &str| words.iter().any(|word| word.starts_with(field));
     let closes = ["desk.reply", "desk.cancel", "desk.expire"].contains(&name);
+    let opened = ["count=", "waiting=", "done=1"].into_iter().filter(|field| has(field)).collect::<Vec<&str>>();
+    let may_wait = name == "scan.step" && opened.len() == 1;
     let way = match words[..] {
         ["bad", "line"] => Way::BadLine,
         ["no", "bench"] => Way::NoBench,
         ["no", "box"] => Way::NoBox,
+        ["no", "scan"] => Way::NoScan,
         ["ok", ..] => Way::Ok,
         ["no", number, ..] => number.parse().map_or(Way::Unknown, Way::No),
         _ => Way::Unknown,
     };
     match way {
-        Way::Ok if opens(name) && !has("count=") => Way::Unknown,
+        Way::Ok if opens(name) && opened != ["count="] && !may_wait => Way::Unknown,
+        Way::No(_) if [has("taken="), has("lines=")] != [name == "rx.feed"; 2] => Way::Unknown,
         Way::No(no) if has("place=") != (no == 3) => Way::Unknown,
         Way::No(no) if has("count=") != (opens(name) && matches!(no, 10..=16 | 75)) => Way::Unknown,
         Way::No(no) if has("job=") != (name == "lane.grant" && no == 75) => Way::Unknown,
@@ -162,7 +177,8 @@ impl Chunks {
         chunks
     }
 
-    /// Hears of a call and its answer; only an accepted call on the receiver has something to tell.
+    /// Hears of a call and its answer; only a call on the receiver has something to tell, and of a refused chunk the
+    /// bytes that were taken.
     fn hear(&mut self, call: &str, answer: &str) {
         let (name, word) = call.split_once(' ').unwrap_or((call, ""));
         match (name, answer.split_once('=').unwrap_or((answer, ""))) {
@@ -170,12 +186,14 @@ impl Chunks {
                 self.next = word.parse().unwrap_or(0);
                 self.chunk = self.next;
             }
-            ("rx.feed", ("ok lines", lines)) => {
-                if word != "-" {
-                    self.chunk = self.next;
-                    self.next += word.len() as u64 / 2;
+            ("rx.feed", _) => {
+                if let Some(told) = told(word, answer) {
+                    if told.taken > 0 {
+                        self.chunk = self.next;
+                        self.next += told.taken as u64;
+                    }
+                    told.lines.iter().for_each(|line| self.count(line));
                 }
-                lines.split(';').for_each(|line| self.count(line));
             }
             ("rx.end", ("ok text", text)) => text.split("\\n").for_each(|line| self.count(line)),
             _ => (),
@@ -196,7 +214,7 @@ impl Chunks {
 fn missing(counts: &Counts, name: &'static str, order: &[No]) -> Vec<String> {
     let mut wanted = vec![Way::Ok];
     wanted.extend(order.iter().map(|no| Way::No(*no)));
-    wanted.extend([Way::NoBench, Way::NoBox].into_iter().filter(|way| is_listed(name, *way)));
+    wanted.extend([Way::NoBench, Way::NoBox, Way::NoScan].into_iter().filter(|way| is_listed(name, *way)));
     wanted.retain(|way| !counts.contains_key(&(name, *way)));
     wanted.iter().map(|way| format!("{name}: {} never occurred", words(*way))).collect()
 }
@@ -207,6 +225,7 @@ fn is_listed(name: &str, way: Way) -> bool {
         Way::BadLine => true,
         Way::NoBench => name.starts_with("bench.") && name != "bench.new",
         Way::NoBox => name.starts_with("varia.") && name != "varia.new",
+        Way::NoScan => name.starts_with("scan.") && name != "scan.new",
         Way::Ok => name != NO_CALL,
         Way::No(no) => ORDERS.iter().any(|(known, order)| *known == name && order.contains(&no)),
         Way::Unknown => false,
@@ -226,18 +245,20 @@ fn words(way: Way) -> String {
         Way::BadLine => "bad line".to_string(),
         Way::NoBench => "no bench".to_string(),
         Way::NoBox => "no box".to_string(),
+        Way::NoScan => "no scan".to_string(),
         Way::Unknown => "an unknown answer".to_string(),
     }
 }
 
-/// One line for each call: ok, bad line, no bench, no box, and then each refusal number with its count.
+/// One line for each call: ok, bad line, no bench, no box, no scan, and then each refusal number with its count.
 fn table(counts: &Counts) -> String {
-    let mut text = format!("{:<14}{:>7}{:>10}{:>10}{:>8}  refusals\n", "call", "ok", "bad line", "no bench", "no box");
+    let heads = ["ok", "bad line", "no bench", "no box", "no scan"].map(|head| format!("{head:>10}")).concat();
+    let mut text = format!("{:<14}{heads}  refusals\n", "call");
     for name in ORDERS.iter().map(|(name, _)| *name).chain([NO_CALL]) {
         let times = |way| counts.get(&(name, way)).copied().unwrap_or(0);
-        let (ok, bad_line) = (times(Way::Ok), times(Way::BadLine));
-        let (no_bench, no_box) = (times(Way::NoBench), times(Way::NoBox));
-        text += &format!("{name:<14}{ok:>7}{bad_line:>10}{no_bench:>10}{no_box:>8}{}\n", refusals(counts, name));
+        let ways = [Way::Ok, Way::BadLine, Way::NoBench, Way::NoBox, Way::NoScan];
+        let each = ways.map(|way| format!("{:>10}", times(way))).concat();
+        text += &format!("{name:<14}{each}{}\n", refusals(counts, name));
     }
     text
 }

@@ -44,6 +44,15 @@ pub struct Opened {
     pub count: usize,
 }
 
+/// How a ticket was closed, as the box and the scan are told.
+#[derive(Clone, Copy)]
+pub enum Closing {
+    /// A reply of this type was booked.
+    Booked(u8),
+    /// It was cancelled or expired.
+    Lost,
+}
+
 /// What a closing answers of its ticket.
 pub struct Closed {
     pub job: u32,

@@ -4,7 +4,8 @@
 use crate::calls::MOST_ENTRIES;
 use crate::desk::{age, HOSTS};
 use crate::queue::Queue;
-use crate::rests::{field, opens, parsed};
+use crate::rests::{field, is_idle, opens, parsed};
+use crate::roll::WAIT;
 use crate::subject::{Subject, Times, Wanted};
 use std::collections::BTreeMap;
 
@@ -65,9 +66,10 @@ impl Subject for Dues {
         Dues { tickets: BTreeMap::new(), queue: Queue::new(), latest: None, times: Times::new() }
     }
 
-    /// Hears of a call and its answer; only calls on the desk, the box's and grants too, have something to tell.
+    /// Hears of a call and its answer; only calls on the desk have something to tell, the box's, the scan's and grants
+    /// too.
     fn hear(&mut self, call: &str, answer: &str) {
-        if answer == "bad line" || answer == "no box" {
+        if is_idle(answer) {
             return;
         }
         let words: Vec<&str> = call.split(' ').collect();
@@ -81,6 +83,7 @@ impl Subject for Dues {
             (["lane.grant", clock, _], Some(address)) => {
                 self.opened(address, granted.map_or(0, |(_, request)| request.wait), parsed(clock))
             }
+            (["scan.step", clock, _], Some(address)) => self.opened(address, WAIT, parsed(clock)),
             ([name, .., wait, clock, _], Some(address)) if opens(name) => {
                 self.opened(address, parsed(wait), parsed(clock))
             }

@@ -1,5 +1,5 @@
 //! The call that expires everything due held against single expiries: the list must be what these answer in their
-//! order, and both must leave the same desk and the same box behind.
+//! order, and both must leave the same desk, the same box and the same scan behind.
 
 use crate::calls::{Rehearsal, MOST_ENTRIES};
 use crate::desk::Ticket;
@@ -32,9 +32,9 @@ fn room(random: &mut Random, rehearsal: &Rehearsal, clock: u32) -> usize {
     }
 }
 
-/// All that the desk and the box show.
-fn state(rehearsal: &mut Rehearsal) -> [String; 2] {
-    ["desk.dump", "varia.dump"].map(|line| rehearsal.answer(line.as_bytes()))
+/// All that the desk, the box and the scan show.
+fn state(rehearsal: &mut Rehearsal) -> [String; 3] {
+    ["desk.dump", "varia.dump", "scan.dump"].map(|line| rehearsal.answer(line.as_bytes()))
 }
 
 /// The answer that single expiries at this clock add up to, until the list is full or nothing is due.

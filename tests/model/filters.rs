@@ -3,6 +3,7 @@
 
 use crate::desk::age;
 use crate::dues::expired;
+use crate::rests::is_idle;
 use crate::subject::{Subject, Times, Wanted};
 use std::collections::BTreeSet;
 
@@ -61,12 +62,13 @@ const ANEW: [&str; 5] = [
 ];
 /// What must have been met while an edge request was out: other openings, the ends of other tickets, and replies on its
 /// own address that are refused; and a reply that comes once it was cancelled or expired.
-const MEANWHILE: [&str; 14] = [
+const MEANWHILE: [&str; 15] = [
     "attenuation",
     "monitor",
     "status",
     "another opened",
     "another granted",
+    "the scan's opened",
     "another booked",
     "another cancelled",
     "another expired",
@@ -111,7 +113,7 @@ impl Subject for Filters {
     /// Hears of a call and its answer.
     fn hear(&mut self, call: &str, answer: &str) {
         let words: Vec<&str> = call.split(' ').collect();
-        if answer == "bad line" || answer == "no box" {
+        if is_idle(answer) {
             return;
         }
         match words[..] {
@@ -127,6 +129,7 @@ impl Subject for Filters {
             ["varia.status", ..] => self.opened("status", answer),
             ["desk.open", ..] => self.opened("another opened", answer),
             ["lane.grant", ..] => self.opened("another granted", answer),
+            ["scan.step", ..] => self.opened("the scan's opened", answer),
             ["desk.reply", frame, _] => self.replied(frame, answer),
             ["desk.cancel", _, address, _] => {
                 self.ended_by("cancel", "another cancelled", "old request cancelled", answer);

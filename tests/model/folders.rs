@@ -171,9 +171,11 @@ impl Folders {
         }
     }
 
-    /// A ticket was asked for, and given an address or refused with this number.
+    /// A ticket was asked for, and given an address or refused with this number; a step of the scan may also say that
+    /// it waits or is done.
     fn asked(&mut self, words: &[&str], number: Option<&str>, answer: &str) {
-        let (job, folder) = match self.holders.asked(words) {
+        let is_asked = number.is_some() || field::<u8>(answer, "address=").is_some();
+        let (job, folder) = match self.holders.asked(words).filter(|_| is_asked) {
             Some(asked) => asked,
             None => return,
         };

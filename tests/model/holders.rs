@@ -22,8 +22,9 @@ pub struct Holders {
     holders: BTreeMap<u32, Holder>,
     /// What waits in the lanes, since a grant doesn't tell the folder.
     pub queue: Queue,
-    /// The job of the box, whose tickets are on no folder.
+    /// The jobs of the box and of the scan, whose tickets are on no folder.
     box_job: u32,
+    scan_job: u32,
     pub faults: Vec<String>,
 }
 
@@ -31,7 +32,7 @@ impl Holders {
     /// A fresh desk with fresh lanes: nobody holds a folder.
     pub fn new() -> Holders {
         let (tickets, holders, faults) = (BTreeMap::new(), BTreeMap::new(), Vec::new());
-        Holders { tickets, holders, queue: Queue::new(), box_job: 0, faults }
+        Holders { tickets, holders, queue: Queue::new(), box_job: 0, scan_job: 0, faults }
     }
 
     /// The job and the folder that a call asks a ticket for, if it does.
@@ -39,6 +40,7 @@ impl Holders {
         match words {
             ["desk.open", job, .., folder, _, _] => Some((parsed(job), parsed(folder))),
             ["lane.grant", ..] => self.queue.next().map(|request| (request.job, request.folder)),
+            ["scan.step", ..] => Some((self.scan_job, 0)),
             [name, ..] if opens(name) => Some((self.box_job, 0)),
             _ => None,
         }
@@ -59,6 +61,7 @@ impl Holders {
         match (words, self.asked(words)) {
             (["desk.new"], _) => *self = Holders { faults: std::mem::take(&mut self.faults), ..Holders::new() },
             (["varia.new", job, _], _) => self.box_job = parsed(job),
+            (["scan.new", job], _) => self.scan_job = parsed(job),
             (_, Some((job, folder))) => self.answered(job, folder, answer),
             (["desk.reply", ..] | ["desk.cancel", ..] | ["desk.expire", ..], _) => {
                 let told = (field(answer, "job="), field(answer, "address="), field(answer, "folder="));

@@ -3,7 +3,7 @@
 
 use crate::desk::{age, FIRST_HOST, HOSTS, LAST_HOST, REST};
 use crate::dues::expired;
-use crate::rests::{field, opens, parsed};
+use crate::rests::{field, is_idle, opens, parsed};
 use crate::subject::{Subject, Times, Wanted};
 use std::collections::{BTreeMap, BTreeSet};
 
@@ -37,8 +37,22 @@ const GRANT: [&str; 8] = [
     "15 all resting",
     "15 open and resting",
 ];
-/// What must have been met, under fifteen heads.
-const WANTED: [(&str, &[&str]); 15] = [
+/// What must have been met of steps of the scan.
+const SCAN: [&str; 11] = [
+    "1",
+    "more",
+    "past resting ones",
+    "16 with 1",
+    "16 with more",
+    "10 on an empty desk",
+    "10 some free",
+    "10 none free",
+    "15 all open",
+    "15 all resting",
+    "15 open and resting",
+];
+/// What must have been met, under sixteen heads.
+const WANTED: [(&str, &[&str]); 16] = [
     ("given", &FOUND),
     ("16", &FOUND),
     ("15", &["all open", "all resting", "open and resting"]),
@@ -54,6 +68,7 @@ const WANTED: [(&str, &[&str]); 15] = [
     ("varia.monitor", &BOX),
     ("varia.status", &BOX),
     ("lane.grant", &GRANT),
+    ("scan.step", &SCAN),
 ];
 
 /// So many wrong counts are told; others go untold.
@@ -84,9 +99,10 @@ impl Subject for Looks {
         }
     }
 
-    /// Hears of a call and its answer; only calls on the desk, the box's and grants too, have something to tell.
+    /// Hears of a call and its answer; only calls on the desk have something to tell, the box's, the scan's and grants
+    /// too.
     fn hear(&mut self, call: &str, answer: &str) {
-        if answer == "bad line" || answer == "no box" {
+        if is_idle(answer) {
             return;
         }
         let words: Vec<&str> = call.split(' ').collect();

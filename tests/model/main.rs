@@ -28,10 +28,17 @@ mod random;
 mod receiver;
 mod remainder;
 mod rests;
+mod roll;
+mod scan;
+mod scans;
 mod script;
 mod sheet;
 mod sheets;
+mod shift;
 mod subject;
+mod sums;
+mod tallies;
+mod tally;
 mod telegram;
 mod turns;
 mod values;
@@ -42,7 +49,8 @@ use std::io::{self, Read, Write};
 use std::process::ExitCode;
 
 const USAGE: &str = "usage: model answer | script SEED CALLS | count SCRIPT ANSWERS | cuts | list | capture SEED | \
-chunks SEED CAPTURES | expiries SEED DESKS | lanes SEED RUNS | folders SEED CALLS | noise SEED ROUNDS | vectors";
+chunks SEED CAPTURES | expiries SEED DESKS | lanes SEED RUNS | folders SEED CALLS | noise SEED ROUNDS | \
+scans SEED RUNS | tallies SEED CAPTURES | vectors";
 
 /// 0 when all is well, 1 when a check fails, 2 when the command can't be carried out.
 fn main() -> ExitCode {
@@ -88,6 +96,14 @@ fn run(words: &[&str]) -> io::Result<bool> {
         ["noise", seed, rounds] => {
             let (report, all_refused) = noise::report(number(seed)?, number(rounds)?);
             put(report, all_refused)
+        }
+        ["scans", seed, runs] => {
+            let (report, all_right) = shift::report(number(seed)?, number(runs)?);
+            put(report, all_right)
+        }
+        ["tallies", seed, captures] => {
+            let (report, no_difference) = sums::report(number(seed)?, number(captures)?);
+            put(report, no_difference)
         }
         ["vectors"] => {
             let (report, all_hold) = vectors::report();

@@ -3,6 +3,7 @@
 
 use crate::calls::unhex;
 use crate::subject::{Subject, Times, Wanted};
+use crate::tallies;
 use crate::telegram::{CODES, END, LONGEST_TELEGRAM, START, SUBSTITUTION};
 
 /// What must have been met in each call that reads a frame.
@@ -61,10 +62,10 @@ impl Subject for Places {
                 *self = Places { first: place.parse().unwrap_or(0), times, ..Places::default() };
             }
             ["rx.feed", chunk] => {
-                if let Some(lines) = answer.strip_prefix("ok lines=") {
+                if let (Some(bytes), Some(told)) = (unhex(chunk.as_bytes()), tallies::told(chunk, answer)) {
                     self.borders.push(self.fed.len());
-                    self.fed.extend(unhex(chunk.as_bytes()).unwrap_or_default());
-                    lines.split(';').for_each(|line| self.told(line));
+                    self.fed.extend(&bytes[..told.taken]);
+                    told.lines.iter().for_each(|line| self.told(line));
                 }
             }
             [name, frame, _] => {

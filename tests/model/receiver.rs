@@ -1,6 +1,7 @@
 //! The receiver of a capture that comes in chunks: it goes from byte to byte and keeps no more than the open frame.
 
 use crate::listing::{totals, Fate};
+use crate::tally::Tally;
 use crate::telegram::{lowest, No, END, LONGEST_TELEGRAM, START};
 
 /// A frame that a 13 at this place opened, and its bytes so far. Of a runaway only the first 494 are kept; it is known
@@ -34,11 +35,11 @@ impl Receiver {
         Receiver { place, open: None, read: 0, refused: 0, dropped: 0 }
     }
 
-    /// Takes a chunk by steps on what is left of it; an empty one is a step that takes nothing.
-    pub fn feed(&mut self, chunk: &[u8]) -> Fed {
+    /// Takes a chunk by steps on what is left of it, the tally lent to each; an empty one is a step that takes nothing.
+    pub fn feed(&mut self, chunk: &[u8], tally: &mut Tally) -> Fed {
         let mut fed = Fed { taken: 0, lines: Vec::new(), refusal: None };
         loop {
-            match self.step(&chunk[fed.taken..]) {
+            match self.step(&chunk[fed.taken..], tally) {
                 Ok((taken, line)) => {
                     fed.taken += taken;
                     fed.lines.extend(line);
@@ -52,25 +53,34 @@ impl Receiver {
     }
 
     /// Takes the bytes up to and including the one that ends the next line, or all where none ends. Answers how many
-    /// it took and the line; 60 where what is left would carry the place past the largest.
-    fn step(&mut self, left: &[u8]) -> Result<(usize, Option<String>), No> {
+    /// it took and the line, which the tally has counted; 76 where its number would pass the largest, then 60 where
+    /// what is left would carry the place past the largest.
+    fn step(&mut self, left: &[u8], tally: &mut Tally) -> Result<(usize, Option<String>), No> {
+        let counted = self.ending(left).map_or(Ok(*tally), |fate| tally.with(&fate))?;
         lowest(&[(60, self.place.checked_add(left.len() as u64).is_none())])?;
+        *tally = counted;
         for (before, byte) in left.iter().enumerate() {
-            let line = self.take(*byte);
-            if line.is_some() {
-                return Ok((before + 1, line));
+            if let Some((place, fate)) = self.take(*byte) {
+                return Ok((before + 1, Some(fate.line(place))));
             }
         }
         Ok((left.len(), None))
     }
 
-    /// Takes one byte and answers the line that it ends.
-    fn take(&mut self, byte: u8) -> Option<String> {
+    /// What the next line will say of its frame, if a line ends in these bytes. That is found without their places, for
+    /// there may be none for them.
+    fn ending(&self, left: &[u8]) -> Option<Fate> {
+        let mut trial = Receiver { place: 0, ..self.clone() };
+        left.iter().find_map(|byte| trial.take(*byte)).map(|(_, fate)| fate)
+    }
+
+    /// Takes one byte and answers the place and the fate of the frame whose line it ends.
+    fn take(&mut self, byte: u8) -> Option<(u64, Fate)> {
         let place = self.place;
         self.place += 1;
         match byte {
-            START => self.open.replace(Frame { place, kept: vec![START] }).map(|frame| self.drop(&frame)),
-            END => self.open.take().map(|frame| self.close(frame)),
+            START => self.open.replace(Frame { place, kept: vec![START] }).map(|frame| (frame.place, self.drop())),
+            END => self.open.take().map(|frame| (frame.place, self.close(frame))),
             _ => {
                 self.keep(byte);
                 None
@@ -86,13 +96,13 @@ impl Receiver {
     }
 
     /// Counts a frame that a second 13 dropped.
-    fn drop(&mut self, frame: &Frame) -> String {
+    fn drop(&mut self) -> Fate {
         self.dropped += 1;
-        Fate::Dropped.line(frame.place)
+        Fate::Dropped
     }
 
     /// Counts a frame that a 10 closed: it is read where the 10 still has room among the 494, otherwise refused 5.
-    fn close(&mut self, mut frame: Frame) -> String {
+    fn close(&mut self, mut frame: Frame) -> Fate {
         let fate = if frame.kept.len() < LONGEST_TELEGRAM {
             frame.kept.push(END);
             Fate::of(&frame.kept)
@@ -103,7 +113,7 @@ impl Receiver {
             Fate::Read(_) => self.read += 1,
             _ => self.refused += 1,
         }
-        fate.line(frame.place)
+        fate
     }
 
     /// What is left to say, each line ended by one newline: the open frame if there is one, and the totals.

@@ -63,9 +63,10 @@ impl Subject for Rests {
         }
     }
 
-    /// Hears of a call and its answer; only calls on the desk, the box's and grants too, have something to tell.
+    /// Hears of a call and its answer; only calls on the desk have something to tell, the box's, the scan's and grants
+    /// too.
     fn hear(&mut self, call: &str, answer: &str) {
-        if answer == "bad line" || answer == "no box" {
+        if is_idle(answer) {
             return;
         }
         let (words, address) = (call.split(' ').collect::<Vec<&str>>(), field(answer, "address="));
@@ -187,10 +188,15 @@ impl Rests {
     }
 }
 
-/// Whether a call of this name opens a ticket: the desk's own, one of the box's, or a grant.
+/// Whether a call of this name opens a ticket: the desk's own, one of the box's, a grant, or a step of the scan.
 pub fn opens(name: &str) -> bool {
     let of_the_box = ["varia.short", "varia.long", "varia.att", "varia.monitor", "varia.status"];
-    ["desk.open", "lane.grant"].contains(&name) || of_the_box.contains(&name)
+    ["desk.open", "lane.grant", "scan.step"].contains(&name) || of_the_box.contains(&name)
+}
+
+/// Whether a line had no effect at all: it was no call, or there was nothing to call.
+pub fn is_idle(answer: &str) -> bool {
+    ["bad line", "no bench", "no box", "no scan"].contains(&answer)
 }
 
 /// The number after this name in an answer.

@@ -11,14 +11,16 @@ mod numbers;
 mod receiver_walk;
 mod rest_walk;
 mod rough;
+mod scan_walk;
 mod sheet_walk;
+mod tally_walk;
 mod telegrams;
 mod varia_walk;
 
 use crate::calls::Rehearsal;
 use crate::random::Random;
 
-/// A script under way: its lines and the desk, lanes, box, bench and receiver they have led to.
+/// A script under way: its lines and the desk, lanes, box, scan, bench, receiver and tally they have led to.
 pub struct Script {
     random: Random,
     rehearsal: Rehearsal,
@@ -144,10 +146,21 @@ const FOLDER_ROUND: [Section; 7] = [
 /// The sections on noise that is no burst, after those on folders, with a generator of their own as well.
 const NOISE_ROUND: [Section; 3] = [noise_walk::reads, noise_walk::replies, noise_walk::telegrams];
 
-/// A rehearsal with a desk of any sort, to try the call on that expires everything due.
+/// The sections on the scan, after those on noise, with a generator of their own as well.
+const SCAN_ROUND: [Section; 5] =
+    [rough::scan_lines, scan_walk::whole, scan_walk::of_one_result, scan_walk::anew, scan_walk::mixed];
+
+/// The sections on the tally, after those on the scan, with a generator of their own as well. Each ends with the tally
+/// cleared, so that the other sections meet no full number.
+const TALLY_ROUND: [Section; 5] =
+    [rough::tally_lines, tally_walk::near_full, tally_walk::last_places, tally_walk::no_line, tally_walk::anew];
+
+/// A rehearsal with a desk of any sort, to try the call on that expires everything due; a scan is out there in half of
+/// the cases.
 pub fn crowded(seed: u64) -> Rehearsal {
     let mut script = Script::new(seed);
     expall_walk::crowd(&mut script);
+    scan_walk::beside(&mut script);
     script.rehearsal
 }
 
@@ -155,6 +168,14 @@ pub fn crowded(seed: u64) -> Rehearsal {
 pub fn lane_run(seed: u64) -> Vec<String> {
     let mut script = Script::new(seed);
     lane_walk::run(&mut script);
+    script.lines.iter().map(|line| String::from_utf8_lossy(line).into_owned()).collect()
+}
+
+/// The lines of a run with a whole scan, to hold its turns against what they ask and what becomes of them.
+pub fn scan_run(seed: u64) -> Vec<String> {
+    let mut script = Script::new(seed);
+    let section = script.random.pick(&[scan_walk::whole, scan_walk::of_one_result]);
+    section(&mut script);
     script.lines.iter().map(|line| String::from_utf8_lossy(line).into_owned()).collect()
 }
 
@@ -167,6 +188,7 @@ pub fn write(seed: u64, calls: usize) -> Vec<u8> {
     lane_walk::no_desk_yet(&mut script);
     receiver_walk::no_receiver_yet(&mut script);
     varia_walk::no_box_yet(&mut script);
+    scan_walk::no_scan_yet(&mut script);
     rough::longest_lines(&mut script);
     sheet_walk::largest(&mut script);
     let mut receiver_random = Random::new(!seed);
@@ -178,6 +200,8 @@ pub fn write(seed: u64, calls: usize) -> Vec<u8> {
     let mut lane_random = Random::new(seed.rotate_left(24) ^ 0x4C41_4E45_5300);
     let mut folder_random = Random::new(seed.rotate_left(40) ^ 0x464F_4C44_4552);
     let mut noise_random = Random::new(seed.rotate_left(56) ^ 0x4E4F_4953_4500);
+    let mut scan_random = Random::new(seed.rotate_left(4) ^ 0x5343_414E_0000);
+    let mut tally_random = Random::new(seed.rotate_left(12) ^ 0x5441_4C4C_5900);
     while script.lines.len() < calls {
         script.round(ROUND);
         script.round_with(&mut receiver_random, RECEIVER_ROUND);
@@ -189,6 +213,8 @@ pub fn write(seed: u64, calls: usize) -> Vec<u8> {
         script.round_with(&mut lane_random, LANE_ROUND);
         script.round_with(&mut folder_random, FOLDER_ROUND);
         script.round_with(&mut noise_random, NOISE_ROUND);
+        script.round_with(&mut scan_random, SCAN_ROUND);
+        script.round_with(&mut tally_random, TALLY_ROUND);
     }
     script.lines.truncate(calls);
     script.lines.iter().flat_map(|line| [line.as_slice(), b"\n"].concat()).collect()

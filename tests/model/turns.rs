@@ -6,7 +6,7 @@ use crate::desk::{age, HOSTS};
 use crate::dues::closed;
 use crate::lanes::{LANES, MOST_WAITING};
 use crate::queue::{field, Queue};
-use crate::rests::{opens, parsed};
+use crate::rests::{is_idle, opens, parsed};
 use crate::subject::{Subject, Times, Wanted};
 use crate::telegram::CODES;
 use std::collections::{BTreeMap, BTreeSet};
@@ -95,7 +95,7 @@ const WANTED: [(&str, &[&str]); 21] = [
     ("grant 15", &["once", "again", "withdrawn then"]),
     ("withdraw", &WITHDRAWN),
     ("withdraw 55", &NOT_WITHDRAWN),
-    ("beside", &["opened directly", "for a job that waits", "for the box", "15 for both"]),
+    ("beside", &["opened directly", "for a job that waits", "for the box", "for the scan", "15 for both"]),
     ("granted", &ENDS),
     ("dump", &SHOWN),
     ("desk.new", &["while some wait", "another lane last"]),
@@ -139,7 +139,7 @@ impl Subject for Turns {
 
     /// Hears of a call and its answer: what there is to say of it by the lanes before it, and then the lanes after it.
     fn hear(&mut self, call: &str, answer: &str) {
-        if answer == "bad line" || answer == "no box" {
+        if is_idle(answer) {
             return;
         }
         let words: Vec<&str> = call.split(' ').collect();
@@ -343,13 +343,14 @@ impl Turns {
     /// A ticket was asked for beside the lanes, and perhaps opened.
     fn opened(&mut self, words: &[&str], refusal: Option<&str>, answer: &str) {
         let job = if words[0] == "desk.open" { parsed(words[1]) } else { 0 };
-        let is_waiting = self.queue.held() > 0;
+        let (is_waiting, is_scan) = (self.queue.held() > 0, words[0] == "scan.step");
         self.count_if(is_waiting && self.is_15 && refusal == Some("15"), "beside", "15 for both");
         if let Some(address) = field(answer, "address=") {
             self.open.insert(address);
             self.count_if(is_waiting && job > 0, "beside", "opened directly");
             self.count_if(self.queue.waiting_of(job) > 0, "beside", "for a job that waits");
-            self.count_if(is_waiting && job == 0, "beside", "for the box");
+            self.count_if(is_waiting && job == 0 && !is_scan, "beside", "for the box");
+            self.count_if(is_waiting && is_scan, "beside", "for the scan");
         }
     }
 

@@ -1,6 +1,6 @@
 //! The filter box: a VARIA's edges, attenuation and readings for the operators, above the desk.
 
-use crate::desk::{Desk, Opened, Request};
+use crate::desk::{Closing, Desk, Opened, Request};
 use crate::telegram::{lowest, No, Refusal};
 
 /// The register of each thing the box asks for.
@@ -36,15 +36,6 @@ pub enum Wish {
     Attenuate(u16),
     Monitor,
     Status,
-}
-
-/// How the desk closed a ticket.
-#[derive(Clone, Copy)]
-pub enum Closing {
-    /// A reply of this type was booked.
-    Booked(u8),
-    /// It was cancelled or expired.
-    Lost,
 }
 
 /// An edge request whose ticket is open.

@@ -1,5 +1,7 @@
 //! The model held against the facts the papers print.
 
+mod shift;
+
 use crate::bench::Bench;
 use crate::calls::{answers, hex};
 use crate::faults::{all_substituted, longest, wrong_frame};
@@ -126,11 +128,15 @@ no 70
 ok module=15 reg=50 kind=1 count=2 n=2 buf=01020000
 ";
 
+/// The part of the same example that is about the receiver, and what it has of the tally.
 const RECEIVER_CALLS: &str = "\
 rx.new 0
 rx.feed 0da20f030d
 rx.feed 30482f0a0d
 rx.end
+tally.get
+tally.set 0 4294967295 0
+rx.feed 0a01
 ";
 
 const RECEIVER_ANSWERS: &str = "\
@@ -138,6 +144,24 @@ ok
 ok lines=at 0 dropped
 ok lines=at 4 refused 4
 ok text=at 9 open\\nok 0 refused 1 dropped 1\\n
+ok read=0 refused=1 dropped=1
+ok
+no 76 taken=0 lines=
+";
+
+/// The part of the same example that is about the scan, after those about the desk and the box.
+const SCAN_CALLS: &str = "\
+scan.new 5
+scan.step 400 000000000000000000000000
+scan.step 400 000000000000000000000000
+scan.dump
+";
+
+const SCAN_ANSWERS: &str = "\
+ok
+ok address=164 module=1 n=8 count=1 buf=0d01a40461a7ab0a00000000
+ok waiting=164 buf=000000000000000000000000
+ok done=0 turns=0 out=164 results=-
 ";
 
 pub const SAMPLE_CAPTURE: [u8; 12] = [0x0D, 0xA2, 0x0F, 0x03, 0x30, 0x48, 0x2F, 0x0A, 0x0D, 0x0A, 0x0D, 0x05];
@@ -177,6 +201,11 @@ pub fn report() -> (String, bool) {
         placed_lines(),
         receivers(),
         last_places(),
+        later_example(),
+        shift::tallies(),
+        shift::full_tallies(),
+        shift::scans(),
+        shift::ended_turns(),
         sheets(),
         unwritten_sheets(),
         wrong_sheets(),
@@ -939,6 +968,13 @@ fn last_places() -> Vec<Check> {
             "bad line\nok text=ok 0 refused 0 dropped 0\\n",
         ),
     ]
+}
+
+/// All parts of the call scripts' later example in their order, but for what it has of requests that are still to come.
+fn later_example() -> Vec<Check> {
+    let asked = [DESK_CALLS, RECEIVER_CALLS, BOX_CALLS, SHEET_CALLS, LANE_CALLS, SCAN_CALLS];
+    let said = [DESK_ANSWERS, RECEIVER_ANSWERS, BOX_ANSWERS, SHEET_ANSWERS, LANE_ANSWERS, SCAN_ANSWERS];
+    vec![calls("the call scripts' later example", &asked.concat(), &said.concat())]
 }
 
 /// The sheets' part of the call scripts' example, the empty sheet, both sides of the most settings and of the most

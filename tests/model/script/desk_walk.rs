@@ -6,6 +6,7 @@ use crate::desk::{Desk, Request, Ticket, FIRST_HOST, HOSTS, LAST_HOST};
 use crate::faults::{broken, data, flip_within_16, length, spoil, BREAKS};
 use crate::lanes::Lanes;
 use crate::random::Random;
+use crate::scan::Scan;
 use crate::telegram::{frame, Message, No, MOST_DATA};
 use crate::varia::Varia;
 
@@ -166,6 +167,11 @@ impl<'a> Walk<'a> {
     /// The box as the script has it now, if there is one.
     pub fn varia(&self) -> Option<&Varia> {
         self.script.rehearsal.varia.as_ref()
+    }
+
+    /// The scan as the script has it now, if there is one.
+    pub fn scan(&self) -> Option<&Scan> {
+        self.script.rehearsal.scan.as_ref()
     }
 
     /// Adds a line of any sort and hands its answer over.

@@ -4,6 +4,7 @@ use super::receiver_walk::MOST_FED;
 use super::{buffer, Script};
 use crate::calls::{hex, LONGEST_LINE, MOST_ENTRIES, MOST_NAMED};
 use crate::random::Random;
+use crate::sheet::MOST_SETTINGS;
 use crate::telegram::LONGEST_TELEGRAM;
 
 /// One right line of each call.
@@ -62,6 +63,12 @@ const LANE_SAMPLES: [&str; 5] = [
     "lane.withdraw 8 1",
     "lane.dump",
 ];
+
+/// The same of the calls on the scan.
+const SCAN_SAMPLES: [&str; 3] = ["scan.new 5", "scan.step 400 a1a2a3a4a5a6a7a8a9aaabac", "scan.dump"];
+
+/// The same of the calls on the tally.
+const TALLY_SAMPLES: [&str; 3] = ["tally.set 3 4294967295 9", "tally.get", "rx.feed 0d0a0d"];
 
 /// Words that are wrong in some places or in all of them.
 const ODD_WORDS: [&str; 32] = [
@@ -279,6 +286,56 @@ const NO_LANE_CALLS: [&str; 40] = [
     "Lane.dump",
 ];
 
+/// Lines that are no calls on the scan, and numbers one past their type.
+const NO_SCAN_CALLS: [&str; 24] = [
+    "scan",
+    "scan.",
+    "scan.new",
+    "scan.new ",
+    "scan.new -",
+    "scan.new -1",
+    "scan.new +5",
+    "scan.new 5 0",
+    "scan.new  5",
+    "scan.new 4294967296",
+    "scan.new 4294967301",
+    "scan.step",
+    "scan.step 400",
+    "scan.step 400 ",
+    "scan.step 400 a1a",
+    "scan.step 400 A1",
+    "scan.step - a1a2a3a4a5a6a7a8a9aaabac",
+    "scan.step -1 a1a2a3a4a5a6a7a8a9aaabac",
+    "scan.step 4294967296 a1a2a3a4a5a6a7a8a9aaabac",
+    "scan.step 400 100 a1a2a3a4a5a6a7a8a9aaabac",
+    "scan.step 400 a1a2a3a4a5a6a7a8a9aaabac 0",
+    "scan.dump 0",
+    "scan.dump ",
+    "Scan.dump",
+];
+
+/// Lines that are no calls on the tally, and numbers one past their type.
+const NO_TALLY_CALLS: [&str; 18] = [
+    "tally",
+    "tally.",
+    "tally.new",
+    "tally.set",
+    "tally.set 1",
+    "tally.set 1 2",
+    "tally.set 1 2 3 4",
+    "tally.set 1 2 3 ",
+    "tally.set 1  2 3",
+    "tally.set - 2 3",
+    "tally.set -1 2 3",
+    "tally.set 4294967296 2 3",
+    "tally.set 1 4294967296 3",
+    "tally.set 1 2 4294967296",
+    "tally.set 18446744073709551616 2 3",
+    "tally.get 0",
+    "tally.get ",
+    "Tally.get",
+];
+
 /// Folders as they may stand in a line, 1 and such as would be 1 or none of a narrower type first, then the largest;
 /// and what is no folder.
 const FOLDER_WORDS: [&str; 16] = [
@@ -418,8 +475,8 @@ fn any_varia_call(random: &mut Random, which: usize) -> String {
     }
 }
 
-/// The calls on settings sheets with any words, then lines that are none of them, or nearly, and the most settings that
-/// a line may name and one more.
+/// The calls on settings sheets with any words, then lines that are none of them, or nearly, the most settings that a
+/// line may name and one more, and as many as are too many of one key.
 pub fn sheet_lines(script: &mut Script) {
     for _ in 0..6 {
         let random = &mut script.random;
@@ -442,6 +499,7 @@ pub fn sheet_lines(script: &mut Script) {
         let named: Vec<String> = (0..count).map(|register| format!("1:{}:1:1:a1", register % 256)).collect();
         script.call(format!("sheet.write {} a1a2", named.join(";")));
     }
+    script.call(format!("sheet.write {} a1a2", vec!["1:0:1:1:a1"; MOST_SETTINGS + 1].join(";")));
 }
 
 /// The call that expires everything due with any clock and with rooms around the most there are, on a desk of one
@@ -506,6 +564,52 @@ pub fn folder_lines(script: &mut Script) {
         script.call(format!("desk.open 9 15 4 102 - 1000 {folder} 300 {short}"));
     }
     script.call("desk.dump");
+}
+
+/// The calls on the scan with any words, then lines that are none of them, or nearly; the scan is shown before and
+/// after.
+pub fn scan_lines(script: &mut Script) {
+    script.call("desk.new");
+    for _ in 0..4 {
+        let (job, clock, buf) = (script.random.word(), script.random.word(), lent(&mut script.random));
+        for line in [format!("scan.new {job}"), format!("scan.step {clock} {buf}"), "scan.dump".to_string()] {
+            script.call(line);
+        }
+    }
+    for sample in SCAN_SAMPLES.iter().cycle().take(3 * 8) {
+        let line = amiss(&mut script.random, sample);
+        script.call(line);
+    }
+    script.call("scan.new 0000000005");
+    script.call(format!("scan.step {:040} {}", 400, hex(&buffer(12))));
+    script.call("scan.dump");
+    for line in NO_SCAN_CALLS {
+        script.call(line);
+    }
+    script.call("scan.dump");
+    script.call("desk.dump");
+}
+
+/// The calls on the tally with any words, then lines that are none of them, or nearly; the tally is shown before and
+/// after, and cleared at last.
+pub fn tally_lines(script: &mut Script) {
+    script.call("rx.new 0");
+    for _ in 0..4 {
+        let ([read, refused, dropped], bytes) = ([(); 3].map(|()| script.random.word()), any_bytes(&mut script.random));
+        script.call(format!("tally.set {read} {refused} {dropped}"));
+        script.call(format!("rx.feed {bytes}"));
+        script.call("tally.get");
+    }
+    for sample in TALLY_SAMPLES.iter().cycle().take(3 * 8) {
+        let line = amiss(&mut script.random, sample);
+        script.call(line);
+    }
+    script.call(format!("tally.set {:040} 0000000007 4294967295", 5));
+    for line in NO_TALLY_CALLS {
+        script.call(line);
+    }
+    script.call("tally.get");
+    script.call("tally.set 0 0 0");
 }
 
 /// A call on the lanes with words of any value; jobs and places are low in half of the cases.

@@ -477,6 +477,9 @@ pub fn offsets(script: &mut Script) {
         let sheet = [laid_out(&[]), buffer(added)].concat();
         judge(script, &sheet);
     }
+    for offset in ["01", "03"] {
+        script.call(format!("sheet.check 010002000c0000001c0000000f300301000000000f320102{offset}00000034120102"));
+    }
 }
 
 /// Where a record's offset stands in a sheet.

@@ -701,7 +701,7 @@ fn exchange(walk: &mut Walk, wished: Wish, kept: &mut Vec<u8>) {
 }
 
 /// The bytes that an accepted call handed over: the first n of its buffer.
-fn handed_over(answer: &str) -> Option<Vec<u8>> {
+pub fn handed_over(answer: &str) -> Option<Vec<u8>> {
     let field = |name: &str| answer.split(' ').find_map(|word| word.strip_prefix(name));
     let length: usize = field("n=")?.parse().ok()?;
     Some(unhex(field("buf=")?.as_bytes())?[..length].to_vec())
