@@ -23,7 +23,7 @@ def read(path):
 
 # Library crates whose calls docs/PROMISES.md need not name: the parts of the test tool `rehearsal`. No other crate is exempt,
 # and no crate of the product stands on one of these.
-EXEMPT = {"words", "answers", "telegram_calls", "values_calls", "sheet_calls", "overdue_calls", "desk_calls", "bench_calls", "receiver_calls", "lanes_calls", "varia_calls"}
+EXEMPT = {"words", "answers", "telegram_calls", "values_calls", "sheet_calls", "overdue_calls", "desk_calls", "bench_calls", "receiver_calls", "lanes_calls", "varia_calls", "scan_calls"}
 
 
 @functools.lru_cache(maxsize=None)
