@@ -1,5 +1,6 @@
 pub mod Lending
 pub mod Pouring
+pub mod Tallied
 pub mod Laws
 pub mod Whole
 pub mod Sample
