@@ -15,11 +15,12 @@ use Rattle.nights.specs.Night.{Call, after, eventOf, afterAll, answeredAll, las
 use Rattle.nights.specs.Night.{opened, booked, withdrawn, stands}
 -- no two open tickets of different jobs hold the same folder, and "Nothing reported an error": who asks for one that is held is told 75
 pub use Rattle.nights.proofs.Between.{folders-apart, held-then, closes-plainly, closed-in-plainly}
--- with lanes in front it is a night at the desk, and with sweeps and beside a filter box too
+-- with lanes in front it is a night at the desk, and with sweeps, beside a filter box and beside a scan too
 pub use Rattle.nights.proofs.Plainly.{night-plainly}
 pub use Rattle.turns.proofs.Laws.{any-night-behind, folders-apart-behind}
 pub use Rattle.overdue.proofs.Laws.{night-swept, folders-apart-swept}
 pub use Rattle.evenings.proofs.Laws.{night-beside, folders-apart-beside}
+pub use Rattle.scans.proofs.Laws.{night-beside as night-beside-a-scan, folders-apart-beside as folders-apart-beside-a-scan}
 
 -- after any calls one call opened a ticket, any calls later another did
 module _ (before : List Call) (first : Call) (between : List Call) (second : Call) (address other : ℕ) (asked theirs : Request) (clock clock′ : ℕ)

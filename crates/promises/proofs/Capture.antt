@@ -16,6 +16,12 @@ pub use Rattle.receiver.proofs.Laws.{step-forward, step-all, step-first, starts
 pub use Rattle.lister.proofs.Laws.{list-untouched}
 -- "totals made up (they equal the numbers of such lines)"; ok, refused and dropped, and 1 where one is open, are the number of 13s
 pub use Rattle.lister.proofs.Whole.{totals-are}
+-- 02, #113: the tally that is lent to each step: each number is the count of such lines since it was cleared, and the reading is as without it
+pub use Rattle.tally.proofs.Laws.{step-adds, line-counted, silent-keeps, receivers-own, number-for}
+pub use Rattle.tally.proofs.Since.{since-cleared, since-plainly, behind-clearing}
+pub use Rattle.tally.proofs.With.{feed-same, same-reading-with, same-cuts-with, same-tally-with, feed-totals}
+pub use Rattle.tally.proofs.Sample.{counted-each, counted-most, full-there, both-at-once, only-60}
+pub use Rattle.lister.proofs.Tallied.{tally-begins, tally-is, tally-from-start, tally-anew}
 pub use Rattle.listing.proofs.Laws.{thirteens-are}
 -- the whole text is the definition's: header, the calls' texts, the end's text
 pub use Rattle.lister.proofs.Whole.{lines-are, listed}

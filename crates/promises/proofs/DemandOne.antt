@@ -35,6 +35,8 @@ pub use Rattle.lanes.proofs.Laws.{joins-settled, grants-settled, withdraws-sett
 pub use Rattle.receiver.proofs.Laws.{steps-settled}
 pub use Rattle.lister.proofs.Laws.{lists-settled}
 pub use Rattle.varia.proofs.Laws.{sets-settled as edge-sets-settled, attenuates-settled, reads-monitor-settled, reads-status-settled, displays-settled}
+pub use Rattle.scan.proofs.Laws.{makes-settled as scan-makes-settled, steps-settled as scan-steps-settled, hears-reply-settled, hears-closing-settled, looks-settled}
+pub use Rattle.tally.proofs.Laws.{clears-settled, counts-where-settled, counts-settled}
 pub use Rattle.sheet.proofs.Laws.{checks-settled as sheet-checks-settled, reads-settled as sheet-reads-settled}
 pub use Rattle.sheet_writer.proofs.Laws.{writes-settled as sheet-writes-settled}
 pub use Rattle.kamzhor.proofs.Laws.{gives-frame-settled, gives-value-settled, gives-step-settled}
@@ -59,6 +61,10 @@ pub use Rattle.catalogue.proofs.Laws.{find-exactly}
 -- row 60
 pub use Rattle.receiver.proofs.Laws.{step-exactly}
 pub use Rattle.lister.proofs.Laws.{list-exactly}
+-- row 76, ahead of 60
+pub use Rattle.tally.proofs.Laws.{step-exactly as tally-step-exactly, step-plainly as tally-step-plainly, told-76, told-60, told-none, no-line-no-76}
+-- a scan's step passes up the desk's
+pub use Rattle.scan.proofs.Laws.{step-exactly as scan-step-exactly, step-passed-up as scan-passed-up, step-refusals as scan-refusals, step-tells-nothing as scan-tells-nothing}
 -- rows 59, 62 and 63, ahead of the desk's, and 64
 pub use Rattle.varia.proofs.Ranking.{set-exactly as edge-set-exactly, attenuate-exactly, monitor-exactly, status-exactly, display-exactly}
 pub use Rattle.varia.proofs.Ranking.{set-short-plainly, set-long-plainly, attenuate-plainly, display-plainly}
@@ -79,6 +85,8 @@ pub use Rattle.bench.proofs.Laws.{number-is as bench-number-is}
 pub use Rattle.values.proofs.Laws.{number-is as value-number-is}
 pub use Rattle.catalogue.proofs.Laws.{number-is as catalogue-number-is}
 pub use Rattle.receiver.proofs.Laws.{number-is as receiver-number-is}
+pub use Rattle.tally.proofs.Laws.{number-is as tally-number-is}
+pub use Rattle.scan.proofs.Laws.{told-number as scan-told-number}
 pub use Rattle.setting.proofs.Plain.{numbers-are as sheet-numbers-are}
 pub use Rattle.sheet.proofs.Plain.{told-number as sheet-told-number}
 pub use Rattle.sheet_writer.proofs.Laws.{told-number as sheet-writer-told-number}
@@ -110,6 +118,9 @@ pub use Rattle.kamzhor.proofs.Steps.{step-refused}
 -- the receiver's calls
 pub use Rattle.receiver.proofs.Laws.{step-refusal-keeps}
 pub use Rattle.lister.proofs.Laws.{list-refusal-keeps}
+pub use Rattle.tally.proofs.Laws.{refusal-keeps as tally-refusal-keeps, full-undone}
+-- the scan's
+pub use Rattle.scan.proofs.Laws.{step-refusal-keeps as scan-refusal-keeps}
 -- the filter box's calls
 pub use Rattle.varia.proofs.Laws.{set-refusal-keeps, attenuate-refusal-keeps, monitor-refusal-keeps, status-refusal-keeps}
 -- the calls on settings sheets

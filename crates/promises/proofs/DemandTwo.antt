@@ -100,6 +100,14 @@ pub use Rattle.evenings.proofs.Laws.{any-evening}
 pub use Rattle.evenings.proofs.Plainly.{begins-plainly, goes-on-set, goes-on-attenuate, goes-on-monitor, goes-on-status, goes-on-open, goes-on-reply, goes-on-cancel, goes-on-expire}
 pub use Rattle.evenings.proofs.Plainly.{out-there, out-asked-only, out-elsewhere, out-once, known-plainly, known-by-one, known-otherwise, ack-replaces}
 pub use Rattle.evenings.proofs.Plainly.{short-known, long-known, known-in-order, out-stands, none-is-out}
+-- ---- 02, #113: who is on the line. The scan asks the next module, through the desk, and goes by what the desk answered
+pub use Rattle.scan.proofs.Laws.{request-plainly, asks-the-desk, step-opened as scan-opened, step-telegram as scan-telegram}
+pub use Rattle.scan.proofs.Laws.{done-exactly as scan-done-exactly, waiting-exactly, done-stays, waiting-stays, datagram-is-1, else-is-2, closed-is-absent, elsewhere-stays}
+pub use Rattle.scan.proofs.Laws.{make-is as scan-make-is, make-results, result-set, none-after-160, not-yet-exactly, absent-exactly, present-exactly}
+-- over any shift: at most one ticket out, the modules in turn, 160 turns, and each result what became of that very ticket
+pub use Rattle.scans.proofs.Laws.{any-shift}
+pub use Rattle.scans.proofs.Plainly.{out-stands as scan-out-stands, none-is-out as none-of-the-scan-is-out, asked-in-turn, end-between, out-or-ended, not-given-away, answered-by}
+pub use Rattle.scans.proofs.Plainly.{turns-are, ended-once, done-after-160, done-for-ever, one-result, found-1, found-2, found-absent, refused-again}
 -- ---- 02, #107: everything due is expired as by single calls, and the nights count each of its closings
 pub use Rattle.overdue.proofs.Laws.{expired-is, first-entry, entry-on, sweeps, as-single-calls}
 pub use Rattle.overdue.proofs.Laws.{each-due, entries-rise, others-stay, each-rests, turn-stays, count-within, nothing-left, entries-long}

@@ -512,3 +512,9 @@ any-shift {job} {scan} {desk} {past} shift =
 -- the desk beside the scan is that of a night: what its callers saw there, and all that a night keeps to
 pub night-beside : {job : ℕ} {scan : Scan} {desk : Desk} {past : List Event} → Shift job scan desk past → (seen : List Seen) × Night desk seen
 night-beside shift = let s = stands-any shift in (s .seen, s .night)
+
+-- 02, #110, with the scan's steps among them: "No two open tickets of different jobs may hold the same folder other than 0"
+pub folders-apart-beside : {job : ℕ} {scan : Scan} {desk : Desk} {past : List Event} → Shift job scan desk past → (a b : ℕ)
+    → ticketOn desk a .live ≡ true → ticketOn desk b .live ≡ true → ticketOn desk a .asked .job ≢ ticketOn desk b .asked .job
+    → ticketOn desk a .asked .folder ≢ 0 → ticketOn desk a .asked .folder ≢ ticketOn desk b .asked .folder
+folders-apart-beside shift = stands-any shift .night .apart
