@@ -99,9 +99,10 @@ class Call:
         answer, relation = stated[0] if len(stated) == 1 else ("_", "")
         named = re.match(r"\s*([A-Z]\w*)\s", relation)
         self.contract = named.group(1) if named and not re.search(r"[≡×⊎→]", relation) else None
-        # what the relation must speak of: each lent buffer as it is afterwards, and the answer where there is one
+        # what the relation must speak of: all that is given, each lent buffer as it is afterwards, and the answer where there is one
+        given = re.findall(r"[(,]\s*(?:mut\s+)?(\w+)\s*:", said.split("ensures")[0])
         lent = [f"{room} .exit" for room in re.findall(r"(\w+):\s*&\s*mut\b", said)]
-        self.unsaid = [part for part in lent + [answer] * ("->" in said) if not re.search(rf"\b{part}\b", relation)]
+        self.unsaid = [part for part in given + lent + [answer] * ("->" in said) if not re.search(rf"\b{part}\b", relation)]
         self.home = uses.get(self.contract)
 
 
