@@ -105,7 +105,9 @@ pub use Rattle.scan.proofs.Laws.{request-plainly, asks-the-desk, step-opened as
 pub use Rattle.scan.proofs.Laws.{done-exactly as scan-done-exactly, waiting-exactly, done-stays, waiting-stays, datagram-is-1, else-is-2, closed-is-absent, elsewhere-stays}
 pub use Rattle.scan.proofs.Laws.{make-is as scan-make-is, make-results, result-set, none-after-160, not-yet-exactly, absent-exactly, present-exactly}
 -- over any shift: at most one ticket out, the modules in turn, 160 turns, and each result what became of that very ticket
-pub use Rattle.scans.proofs.Laws.{any-shift}
+pub use Rattle.scans.proofs.Laws.{any-shift, one-job}
+pub use Rattle.scans.proofs.JobZero.{job-0-stays, job-0-for-ever}
+pub use Rattle.scans.proofs.Whole.{some-shift-ends}
 pub use Rattle.scans.proofs.Plainly.{out-stands as scan-out-stands, none-is-out as none-of-the-scan-is-out, asked-in-turn, end-between, out-or-ended, not-given-away, answered-by}
 pub use Rattle.scans.proofs.Plainly.{turns-are, ended-once, done-after-160, done-for-ever, one-result, found-1, found-2, found-absent, refused-again}
 -- ---- 02, #107: everything due is expired as by single calls, and the nights count each of its closings

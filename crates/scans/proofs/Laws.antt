@@ -518,3 +518,7 @@ pub folders-apart-beside : {job : ℕ} {scan : Scan} {desk : Desk} {past : List 
     → ticketOn desk a .live ≡ true → ticketOn desk b .live ≡ true → ticketOn desk a .asked .job ≢ ticketOn desk b .asked .job
     → ticketOn desk a .asked .folder ≢ 0 → ticketOn desk a .asked .folder ≢ ticketOn desk b .asked .folder
 folders-apart-beside shift = stands-any shift .night .apart
+
+-- "The scan has one job number"
+pub one-job : {job : ℕ} {scan : Scan} {desk : Desk} {past : List Event} → Shift job scan desk past → scan .job ≡ job
+one-job shift = stands-any shift .of-job

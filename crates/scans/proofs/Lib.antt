@@ -1,2 +1,4 @@
 pub mod Laws
 pub mod Plainly
+pub mod JobZero
+pub mod Whole
