@@ -244,3 +244,14 @@ module _ (r : Receiver) (t : Tally) (chunk : List ℕ) {a : StepAnswer} {t′ : 
   pub line-adds : (line : Placed) → stepWith t r chunk .answer ≡ Line line
       → (t′ .read ≡ t .read + isOk (line .event)) × (t′ .refused ≡ t .refused + isRefused (line .event)) × (t′ .dropped ≡ t .dropped + isDropped (line .event))
   line-adds line e = line-counted t r chunk {s = stepWith t r chunk} line (refl, gives .1) e
+
+-- how much was taken, and the receiver behind it, are told as they are
+pub step-told-whole : (r : Receiver) (t : Tally) (chunk : List ℕ) {a : StepAnswer} {t′ : Tally} → GivesStep r t chunk a t′
+    → (a .taken ≡ stepWith t r chunk .taken) × (a .receiver ≡ stepWith t r chunk .receiver)
+step-told-whole r t chunk g =
+    let s = stepWith t r chunk in
+    rw (g .0) (as-they-are (s .receiver) (s .taken) (s .answer))
+
+pub step-receiver : (r : Receiver) (t : Tally) (chunk : List ℕ) {a : StepAnswer} {t′ : Tally} {ran : Ran} → (IsTallyFull t r chunk → ⊥) → GivesStep r t chunk a t′
+    → Steps r chunk ran → (a .taken ≡ ran .taken) × (a .receiver ≡ ran .receiver)
+step-receiver r t chunk {ran = ran} n g steps = rw (step-own r t chunk n g steps) (as-they-are (ran .receiver) (ran .taken) (tally.told (ran .answer)))

@@ -30,7 +30,8 @@ use Rattle.tally.specs.declared.Tally.{Tally}
 abbrev pub beginAt : ℕ → Listing
 beginAt place = record { receiver = outsideAt place; tally = clearTally; ok = 0; refused = 0; dropped = 0 }
 
--- 02, #113: a tally is "lent to each listing step". Where a line would carry its number past the most it is cleared, and goes on with that line
+-- 02, #113: a tally is "lent to each listing step". Where a line would carry its number past the most, this listing clears it and goes on with
+-- that line (docs/DECISIONS.md, 86)
 abbrev pub tallyAfter : Event → Tally → Tally
 tallyAfter e t = withLine e (cond (isFull e t) clearTally t)
 

@@ -16,11 +16,11 @@ ghost use mathlib.Core.Path.{_≡_};
 pub const TURNS: u8 = 160;
 
 // What became of a turn: nobody answered; a datagram came; a nack, a check error or a busy came.
-pub const ABSENT: u8 = 0;
+const ABSENT: u8 = 0;
 
-pub const ANSWERED: u8 = 1;
+const ANSWERED: u8 = 1;
 
-pub const OBJECTED: u8 = 2;
+const OBJECTED: u8 = 2;
 
 // What each module is asked for, and how long its answer is waited for, in milliseconds.
 const MODULE_TYPE: u8 = 0x61;

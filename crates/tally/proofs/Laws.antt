@@ -166,7 +166,7 @@ receivers-own t r chunk {s} {ran = ran} n c steps = go (isPast (r .place) chunk)
     go true p = c .0 ∙ rw (refusal-is t r chunk false true full p, steps, is-past r chunk p) refl
     go false p = c .0 ∙ rw (refusal-is t r chunk false false full p, steps, not-past r chunk p) refl
 
--- ---- "A step without a line changes no tally number and is never 76."
+-- ---- a step without a line changes no tally number and is never 76
 
 pub no-line-no-76 : (t : Tally) (r : Receiver) (chunk : List ℕ) → stepFrom r chunk .answer ≡ ended.Nothing → IsTallyFull t r chunk → ⊥
 unfolding IsTallyFull

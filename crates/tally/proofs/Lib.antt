@@ -4,3 +4,4 @@ pub mod Laws
 pub mod Since
 pub mod With
 pub mod Sample
+pub mod Plainly
