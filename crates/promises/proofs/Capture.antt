@@ -21,6 +21,7 @@ pub use Rattle.tally.proofs.Laws.{step-adds, line-counted, silent-keeps, receiv
 pub use Rattle.tally.proofs.Since.{since-cleared, since-plainly, behind-clearing}
 pub use Rattle.tally.proofs.With.{feed-same, same-reading-with, same-cuts-with, same-tally-with, feed-totals}
 pub use Rattle.tally.proofs.Sample.{counted-each, counted-most, full-there, both-at-once, only-60}
+pub use Rattle.tally.proofs.Plainly.{counts-by-value, tallies-plainly, adds-plainly, told-plainly, own-plainly, fed-60}
 pub use Rattle.lister.proofs.Tallied.{tally-begins, tally-is, tally-from-start, tally-anew}
 pub use Rattle.listing.proofs.Laws.{thirteens-are}
 -- the whole text is the definition's: header, the calls' texts, the end's text
@@ -34,3 +35,4 @@ pub use Rattle.lister.proofs.Sample.{poured-text, end-text, listed-here}
 pub use Rattle.kamzhor.proofs.Steps.{line-none, line-read, line-refused, line-dropped}
 -- and of the tally that it lends to each step: one more in the number of the line that is told, and no other changed
 pub use Rattle.kamzhor.proofs.Steps.{step-counts, step-own}
+pub use Rattle.kamzhor.proofs.Steps.{step-told-whole, step-receiver}
