@@ -1,5 +1,5 @@
--- Shifts with a scan: any steps of it and any calls at the desk, in any order, the scan made at any time of any night, and every answer of the
--- desk told to the scan, whoever made the call. 02, #113.
+-- Shifts with a scan: any steps of it and any openings, replies, cancels and expiries at the desk, in any order, the scan made at any time of
+-- any night, and every answer of the desk told to the scan, whoever made the call. 02, #113.
 -- Assumes nothing.
 use mathlib.Core.Path.{_≡_}
 use mathlib.Core.List.{List, [], _∷_, _++_}
