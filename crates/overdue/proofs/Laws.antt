@@ -397,7 +397,7 @@ as-single-calls (suc n) desk clock past = ⊎-elim
 -- the list's first entries say what their callers saw
 
 -- the entries that were filled are the definition's
-filled : (desk : Desk) (clock : ℕ) (list : List ℕ) (r : Swept) (list′ : List ℕ) → ExpiresAll desk clock list r list′
+pub filled : (desk : Desk) (clock : ℕ) (list : List ℕ) (r : Swept) (list′ : List ℕ) → ExpiresAll desk clock list r list′
     → take (3 * r .count) list′ ≡ entries (roomIn list) desk clock
 unfolding n es
 filled desk clock list r list′ p =

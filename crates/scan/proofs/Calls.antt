@@ -4,7 +4,7 @@ use mathlib.Core.Path.{_≡_, refl, sym, _∙_}
 use mathlib.Core.Bool.{Bool, true, false}
 use mathlib.Core.List.{List, []}
 use mathlib.Core.Logic.{_≢_}
-use Prim.Native.Nat.{ℕ, _≤_, _<_, _-_}
+use Prim.Native.Nat.{ℕ, _+_, _-_, _≤_, _<_}
 use native.Mathlib.Omega.{arith}
 use borrow.Author.Tests.{le-leb, lt-leb, eq-eqb, ne-eqb}
 use lib.Dec.{leb}
@@ -31,7 +31,7 @@ module _ (scan : Scan) (desk : Desk) (clock : ℕ) (room : List ℕ) (r : AfterS
   pub step-waits : scan .turns < 160 → scan .out ≢ 0 → Stays scan desk (Waiting (scan .out)) r → Steps scan desk clock room r room
   step-waits left out stays = rw (lt-leb 160 (scan .turns) left, ne-eqb (scan .out) 0 out) (stays, refl)
 
-  pub step-asks : (o : AfterOpen) (room′ : List ℕ) → scan .turns < 160 → scan .out ≡ 0 → Opens desk (request scan) [] clock room o room′ → Passes scan o r
+  pub step-asks : (o : AfterOpen) (room′ : List ℕ) → scan .turns < 160 → scan .out ≡ 0 → Opens desk (request scan) [] clock room o room′ → Passes scan (scan .turns + 1) o r
       → Steps scan desk clock room r room′
   step-asks o room′ left free opens passes = rw (lt-leb 160 (scan .turns) left, eq-eqb (scan .out) 0 free) (o, opens, passes)
 

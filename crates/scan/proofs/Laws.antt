@@ -5,7 +5,7 @@ use mathlib.Core.Bool.{Bool, true, false, cond, not, _&&_}
 use mathlib.Core.List.{List, [], _∷_, _++_}
 use mathlib.Core.Logic.{_⊎_, inl, inr, ⊎-elim, _≢_, _↔_}
 use mathlib.Core.Option.{Option, some, none}
-use Prim.Native.Nat.{ℕ, zero, suc, _*_, _+_, _-_, _%_, _≤_, _<_}
+use Prim.Native.Nat.{ℕ, zero, suc, _*_, _+_, _-_, _≤_, _<_}
 use native.Mathlib.Omega.{arith}
 use borrow.Author.Tests.{leb-true, leb-false, le-leb, lt-leb, eqb-true, eqb-false, eq-eqb, ne-eqb}
 use lib.Dec.{eqb, leb}
@@ -59,24 +59,24 @@ request-plainly scan = (refl, refl, refl, refl, refl, refl)
 -- ---- what a step comes to, by its contract
 
 -- the desk's answer, by what was passed on
-module _ (scan : Scan) where
-  was-opened : (a : Opening) (address unit n : ℕ) → Asked address unit n ≡ fromDesk scan a → (a ≡ Opened address n) × (unit ≡ scan .turns % 160 + 1)
+module _ (turn : ℕ) where
+  was-opened : (a : Opening) (address unit n : ℕ) → Asked address unit n ≡ fromDesk turn a → (a ≡ Opened address n) × (unit ≡ turn)
   was-opened (Opened there m) address unit n e = (cc, cc)
   was-opened (NotOpened f) address unit n e = clash (cc)
 
-  was-refused : (a : Opening) (f : Fault) → Refused f ≡ fromDesk scan a → a ≡ NotOpened f
+  was-refused : (a : Opening) (f : Fault) → Refused f ≡ fromDesk turn a → a ≡ NotOpened f
   was-refused (Opened there m) f e = clash (cc)
   was-refused (NotOpened g) f e = cc
 
-  not-done : (a : Opening) → Done ≡ fromDesk scan a → ⊥
+  not-done : (a : Opening) → Done ≡ fromDesk turn a → ⊥
   not-done (Opened there m) e = clash (cc)
   not-done (NotOpened g) e = clash (cc)
 
-  not-waiting : (a : Opening) (address : ℕ) → Waiting address ≡ fromDesk scan a → ⊥
+  not-waiting : (a : Opening) (address : ℕ) → Waiting address ≡ fromDesk turn a → ⊥
   not-waiting (Opened there m) address e = clash (cc)
   not-waiting (NotOpened g) address e = clash (cc)
 
-  passed-told : (a : Opening) → stepTold (fromDesk scan a) ≡ openTold a
+  passed-told : (a : Opening) → stepTold (fromDesk turn a) ≡ openTold a
   passed-told (Opened there m) = refl
   passed-told (NotOpened g) = refl
 
@@ -107,12 +107,12 @@ module _ (scan : Scan) (desk : Desk) (clock : ℕ) (room : List ℕ) where
       let opens = opens-settled desk (request scan) [] clock room in
       let o : AfterOpen = opens .outcome .0 in
       record {
-        outcome = (record { answer = fromDesk scan (o .answer); scan = afterOpening scan (o .answer); desk = o .desk; count = o .count }, opens .outcome .1);
+        outcome = (record { answer = fromDesk (scan .turns + 1) (o .answer); scan = afterOpening scan (o .answer); desk = o .desk; count = o .count }, opens .outcome .1);
         is-allowed = (o, opens .is-allowed, (refl, refl, refl, refl));
         only = λ p a.
             let is = opens .only (a .0, p .1) (a .1) in
-            same (p .0) (p .1) (fromDesk scan (o .answer)) (afterOpening scan (o .answer)) (o .desk) (o .count) (opens .outcome .1)
-            (a .2 .0 ∙ ap (λ (x : AfterOpen × List ℕ). fromDesk scan (x .0 .answer)) is)
+            same (p .0) (p .1) (fromDesk (scan .turns + 1) (o .answer)) (afterOpening scan (o .answer)) (o .desk) (o .count) (opens .outcome .1)
+            (a .2 .0 ∙ ap (λ (x : AfterOpen × List ℕ). fromDesk (scan .turns + 1) (x .0 .answer)) is)
             (a .2 .1 ∙ ap (λ (x : AfterOpen × List ℕ). afterOpening scan (x .0 .answer)) is)
             (a .2 .2 ∙ ap (λ (x : AfterOpen × List ℕ). x .0 .desk) is)
             (a .2 .3 ∙ ap (λ (x : AfterOpen × List ℕ). x .0 .count) is)
@@ -157,7 +157,7 @@ module _ (scan : Scan) (desk : Desk) (clock : ℕ) (room : List ℕ) (r : AfterS
   Waits = (scan .turns < 160) × (scan .out ≢ 0) × (Stays scan desk (Waiting (scan .out)) r × (room′ ≡ room))
 
   abbrev Went : Type 0
-  Went = (scan .turns < 160) × (scan .out ≡ 0) × ((o : AfterOpen) × Opens desk (request scan) [] clock room o room′ × Passes scan o r)
+  Went = (scan .turns < 160) × (scan .out ≡ 0) × ((o : AfterOpen) × Opens desk (request scan) [] clock room o room′ × Passes scan (scan .turns + 1) o r)
 
   which : IsOver ⊎ (Waits ⊎ Went)
   which = go (leb 160 (scan .turns)) refl (eqb (scan .out) 0) refl steps
@@ -193,7 +193,7 @@ module _ (scan : Scan) (desk : Desk) (clock : ℕ) (room : List ℕ) (r : AfterS
       × (r .count ≡ o .count)
   asks-the-desk left free =
       let w = went left free .2 in
-      (w .0, w .1, ap stepTold (w .2 .0) ∙ passed-told scan (w .0 .answer), w .2 .2, w .2 .3)
+      (w .0, w .1, ap stepTold (w .2 .0) ∙ passed-told (scan .turns + 1) (w .0 .answer), w .2 .2, w .2 .3)
 
   -- by its answer: done exactly after 160 turns, waiting exactly where a ticket is out before that
   pub done-exactly : (r .answer ≡ Done) ↔ (160 ≤ scan .turns)
@@ -202,7 +202,7 @@ module _ (scan : Scan) (desk : Desk) (clock : ℕ) (room : List ℕ) (r : AfterS
         ⊎-elim (λ w. w .0)
         (λ h. ⊎-elim
         (λ w. let both : Done ≡ Waiting (scan .out) = sym e ∙ w .2 .0 .0 in clash (cc))
-        (λ w. absurd (not-done scan (w .2 .0 .answer) (sym e ∙ w .2 .2 .0))) h) which,
+        (λ w. absurd (not-done (scan .turns + 1) (w .2 .0 .answer) (sym e ∙ w .2 .2 .0))) h) which,
     λ all. done-stays all .0,
   )
 
@@ -212,7 +212,7 @@ module _ (scan : Scan) (desk : Desk) (clock : ℕ) (room : List ℕ) (r : AfterS
         ⊎-elim (λ w. let both : Waiting address ≡ Done = sym e ∙ w .1 .0 .0 in clash (cc))
         (λ h. ⊎-elim
         (λ w. (w .0, w .1, waiting-is (sym (w .2 .0 .0) ∙ e)))
-        (λ w. absurd (not-waiting scan (w .2 .0 .answer) address (sym e ∙ w .2 .2 .0))) h) which,
+        (λ w. absurd (not-waiting (scan .turns + 1) (w .2 .0 .answer) address (sym e ∙ w .2 .2 .0))) h) which,
     λ h. waiting-stays (h .0) (h .1) .0 ∙ ap Waiting (h .2),
   )
 
@@ -243,10 +243,8 @@ module _ (scan : Scan) (desk : Desk) (clock : ℕ) (room : List ℕ) (r : AfterS
           × (r .scan ≡ nowOut scan address)
           × (r .count ≡ o .count))
       by-desk w =
-          let was = was-opened scan (w .2 .0 .answer) address unit n (sym e ∙ w .2 .2 .0) in
-          let left = w .0 in
-          let in-range : scan .turns % 160 + 1 ≡ scan .turns + 1 = omega (arith, left) in
-          (w .0, w .1, was .1 ∙ in-range, (w .2 .0, w .2 .1, was .0, w .2 .2 .2, w .2 .2 .1 ∙ ap (afterOpening scan) (was .0), w .2 .2 .3))
+          let was = was-opened (scan .turns + 1) (w .2 .0 .answer) address unit n (sym e ∙ w .2 .2 .0) in
+          (w .0, w .1, was .1, (w .2 .0, w .2 .1, was .0, w .2 .2 .2, w .2 .2 .1 ∙ ap (afterOpening scan) (was .0), w .2 .2 .3))
 
   -- the telegram asks that module for register 61h, without data
   pub step-telegram : (address unit n : ℕ) → r .answer ≡ Asked address unit n
@@ -280,7 +278,7 @@ module _ (scan : Scan) (desk : Desk) (clock : ℕ) (room : List ℕ) (r : AfterS
           × (r .desk ≡ o .desk)
           × (r .count ≡ o .count))
       by-desk w =
-          let was = was-refused scan (w .2 .0 .answer) f (sym e ∙ w .2 .2 .0) in
+          let was = was-refused (scan .turns + 1) (w .2 .0 .answer) f (sym e ∙ w .2 .2 .0) in
           (w .0, w .1, (w .2 .0, w .2 .1, was, w .2 .2 .1 ∙ ap (afterOpening scan) was, w .2 .2 .2, w .2 .2 .3))
 
   -- "A turn whose opening is refused, whatever the number, is tried again at the next call and isn't one of the 160": nothing changes

@@ -5,7 +5,7 @@ use mathlib.Core.Path.{_≡_}
 use mathlib.Core.Bool.{Bool, true, false, cond, not, _&&_}
 use mathlib.Core.List.{List, []}
 use mathlib.Core.Option.{Option, some, none}
-use Prim.Native.Nat.{ℕ, _+_, _-_, _%_}
+use Prim.Native.Nat.{ℕ, _+_, _-_}
 use lib.Dec.{eqb, leb}
 use lib.ListN.{getD, replicate, set}
 use Rattle.request.specs.declared.Request.{Request}
@@ -53,9 +53,9 @@ afterOpening scan (Opened address n) = nowOut scan address
 afterOpening scan (NotOpened f) = scan
 
 -- the desk's answer passed on, with the module that was asked
-abbrev pub fromDesk : Scan → Opening → Stepping
-fromDesk scan (Opened address n) = Asked address (scan .turns % 160 + 1) n
-fromDesk scan (NotOpened f) = Refused f
+abbrev pub fromDesk : ℕ → Opening → Stepping
+fromDesk unit (Opened address n) = Asked address unit n
+fromDesk unit (NotOpened f) = Refused f
 
 -- the number that an answer tells, or none
 abbrev pub stepTold : Stepping → Option ℕ
@@ -68,16 +68,16 @@ stepTold Done = none
 abbrev pub Stays : Scan → Desk → Stepping → AfterStep → Type 0
 Stays scan desk answer r = (r .answer ≡ answer) × (r .scan ≡ scan) × (r .desk ≡ desk) × (r .count ≡ 0)
 
--- what the desk did, with its count
-abbrev pub Passes : Scan → AfterOpen → AfterStep → Type 0
-Passes scan o r =
-    (r .answer ≡ fromDesk scan (o .answer)) × (r .scan ≡ afterOpening scan (o .answer)) × (r .desk ≡ o .desk) × (r .count ≡ o .count)
+-- what the desk did, asked for that module, with its count
+abbrev pub Passes : Scan → ℕ → AfterOpen → AfterStep → Type 0
+Passes scan unit o r =
+    (r .answer ≡ fromDesk unit (o .answer)) × (r .scan ≡ afterOpening scan (o .answer)) × (r .desk ≡ o .desk) × (r .count ≡ o .count)
 
 -- a step: done after 160 turns, waiting while a ticket is out, else the next module is asked by the desk's own `open`
 abbrev pub StepsBy : Bool → Bool → Scan → Desk → ℕ → List ℕ → AfterStep → List ℕ → Type 0
 StepsBy true out scan desk clock room r room′ = Stays scan desk Done r × (room′ ≡ room)
 StepsBy false true scan desk clock room r room′ = Stays scan desk (Waiting (scan .out)) r × (room′ ≡ room)
-StepsBy false false scan desk clock room r room′ = (o : AfterOpen) × Opens desk (request scan) [] clock room o room′ × Passes scan o r
+StepsBy false false scan desk clock room r room′ = (o : AfterOpen) × Opens desk (request scan) [] clock room o room′ × Passes scan (scan .turns + 1) o r
 
 -- ---- what the desk answers is told to the scan: "moves on when that ticket is booked, expires or is cancelled"
 

@@ -89,16 +89,21 @@ pub fn step(scan: Scan, desk: Desk, clock: u32, room: &mut [u8]) -> AfterStep
     if scan.out != 0 {
         return stays(scan, desk, Stepping::Waiting(scan.out));
     }
+    let unit = scan.turns + 1;
     let asked = Request {
         job: scan.job,
-        unit: scan.turns + 1,
+        unit,
         sort: READ,
         register: MODULE_TYPE,
         wait: WAIT,
         folder: 0,
     };
     let none = [0u8; 1];
-    passed_on(scan, desk::open(desk, asked, &none[0..0], clock, room))
+    passed_on(
+        scan,
+        unit,
+        desk::open(desk, asked, &none[0..0], clock, room),
+    )
 }
 
 // Nothing was asked.
@@ -113,9 +118,9 @@ fn stays(scan: Scan, desk: Desk, answer: Stepping) -> AfterStep
     }
 }
 
-// What the desk answered, and the scan that goes by it.
-fn passed_on(scan: Scan, opened: AfterOpen) -> AfterStep
-    ensures { λ r. ⌜ Passes scan opened r ⌝ }
+// What the desk answered, asked for that module, and the scan that goes by it.
+fn passed_on(scan: Scan, unit: u8, opened: AfterOpen) -> AfterStep
+    ensures { λ r. ⌜ Passes scan unit opened r ⌝ }
 {
     let desk = opened.desk;
     let answer = opened.answer;
@@ -123,7 +128,7 @@ fn passed_on(scan: Scan, opened: AfterOpen) -> AfterStep
         Opening::Opened(address, n) => AfterStep {
             scan: now_out(scan, address),
             desk,
-            answer: Stepping::Asked(address, (scan.turns % TURNS) + 1, n),
+            answer: Stepping::Asked(address, unit, n),
             count: opened.count,
         },
         Opening::Refused(fault) => AfterStep {

@@ -30,8 +30,8 @@ use Rattle.nights.proofs.Laws.{step, any-night, opens-after, replies-after, can
 use Rattle.nights.specs.Night.{Night, eventOf, answeredAll, asks, brings, cancels as cancelsAt, expires as expiresAt}
 use Rattle.nights.specs.Night.{Event as Seen}
 use Rattle.request.specs.declared.Request.{Request}
-use Rattle.scan.proofs.Laws.{step-opened, step-refusal-keeps, done-exactly, done-stays, waiting-exactly, waiting-stays, nothing-out-stays, elsewhere-stays, datagram-is-1, else-is-2, closed-is-absent, result-set}
-use Rattle.scan.specs.Scan.{request, Steps, HearsReply, HearsClosing}
+use Rattle.scan.proofs.Laws.{step-opened, step-refusal-keeps, done-exactly, done-stays, waiting-exactly, waiting-stays, nothing-out-stays, elsewhere-stays, datagram-is-1, else-is-2, closed-is-absent, result-set, make-results}
+use Rattle.scan.specs.Scan.{request, freshScan, Steps, HearsReply, HearsClosing}
 use Rattle.scan.specs.declared.AfterStep.{AfterStep}
 use Rattle.scan.specs.declared.Scan.{Scan}
 use Rattle.scan.specs.declared.Stepping.{Stepping}
@@ -84,6 +84,7 @@ record Follows (scan : Scan) (past : List Event) : Type 0 where
   left : scan .out ≢ 0 → scan .turns < 160
   long : length (scan .results) ≡ 160
   results : (n r : ℕ) → Became past n r ↔ ((1 ≤ n) × (n ≤ scan .turns) × (getD (scan .results) (n - 1) 0 ≡ r))
+  to-come : (i : ℕ) → scan .turns ≤ i → getD (scan .results) i 0 ≡ 0
   always : Always past
 
 module _ (scan : Scan) (past : List Event) (f : Follows scan past) where
@@ -97,6 +98,7 @@ module _ (scan : Scan) (past : List Event) (f : Follows scan past) where
         left = f .left;
         long = f .long;
         results = λ n r. quiet-became nothing past (λ m s h. h) n r (f .results n r);
+        to-come = f .to-come;
         always = always-more nothing past tt (f .always);
       }
 
@@ -120,6 +122,7 @@ module _ (scan : Scan) (past : List Event) (f : Follows scan past) where
         left = f .left;
         long = f .long;
         results = λ n r. quiet-became e past (λ m s h. none m (ends m s h)) n r (f .results n r);
+        to-come = f .to-come;
         always = always-more e past right (f .always);
       }
 
@@ -151,6 +154,7 @@ module _ (scan : Scan) (past : List Event) (f : Follows scan past) where
         left = λ out. left;
         long = f .long;
         results = λ n r. quiet-became (asked unit address) past (λ m s h. h) n r (f .results n r);
+        to-come = f .to-come;
         always = always-more (asked unit address) past ((scan .turns, f .counted, is-next, omega (arith, left, is-next)), none) (f .always);
       }
     where
@@ -208,6 +212,7 @@ module _ (scan : Scan) (past : List Event) (f : Follows scan past) where
                 (λ same. inl (ends-here n r same (h .2)))
                 (up-to n (scan .turns) (h .1)),
           );
+          to-come = λ i over. set-is .1 i (λ same. absurd (omega (arith, over, same))) ∙ f .to-come i (omega (arith, over));
           always = always-more e past right (f .always);
         }
 
@@ -474,6 +479,7 @@ stands-any {job} (begins calls) =
             left = λ out. absurd (out refl);
             long = length-replicate {A = ℕ} 160 0;
             results = λ n r. (λ h. absurd h, λ h. absurd (let a = h .0 in let b = h .1 in omega (arith, a, b)));
+            to-come = λ i over. make-results job (freshScan job) refl .1 i;
             always = λ later x earlier is. absurd (none-before x earlier later is);
           };
       of-job = refl;
@@ -506,6 +512,7 @@ any-shift {job} {scan} {desk} {past} shift =
       counted = f .counted;
       at-most = f .at-most;
       results = f .results;
+      to-come = f .to-come;
       always = f .always;
     }
 

@@ -1,4 +1,5 @@
--- A scan that comes to its end: each module is asked in turn, and its ticket cancelled. So what is promised of one that is done is not empty.
+-- A scan that comes to its end: each module is asked in turn, and its ticket cancelled; and one whose first module answered. So what is promised
+-- of one that is done, and of a module that answered, is not empty.
 -- Assumes nothing.
 use mathlib.Core.Path.{_≡_, refl, sym, ap, subst, _∙_}
 use mathlib.Core.Bool.{Bool, true, false, true≢false}
@@ -7,33 +8,39 @@ use mathlib.Core.Logic.{_≢_, _⊎_, ⊎-elim}
 use mathlib.Core.Option.{none}
 use Prim.Native.Nat.{ℕ, zero, suc, _+_, _-_, _*_, _≤_, _<_}
 use native.Mathlib.Omega.{arith}
-use borrow.Author.Tests.{eqb-true, eqb-false}
+use borrow.Author.Tests.{eqb-true, eqb-false, le-leb}
 use lib.Dec.{eqb}
-use lib.ListN.{length, replicate, length-replicate}
+use lib.ListN.{length, replicate, take, length-replicate}
 use Rattle.rows.proofs.Laws.{clash}
 use Rattle.telegram.proofs.Send.{telegram-long, length-messageFor}
-use Rattle.telegram.specs.Write.{messageFor}
-use Rattle.desk.proofs.Laws.{opened-given, cancelled-right, cancels-settled, empty-place}
+use Rattle.telegram.proofs.Judge.{reading-telegram}
+use Rattle.telegram.proofs.Laws.{fields-written, reads-back, reads-settled, writes-settled}
+use Rattle.telegram.specs.Read.{readRefusal, fieldsIn}
+use Rattle.telegram.specs.Write.{messageFor, telegramFor, fieldsFor, Writes}
+use Rattle.telegram.specs.declared.Writing.{Writing}
+use Rattle.desk.proofs.Laws.{opened-given, cancelled-right, cancels-settled, replies-settled, empty-place}
 use Rattle.desk.proofs.Ranking.{cancel-plainly}
 use Rattle.desk.specs.Close.{closeTold}
 use Rattle.desk.specs.Desk.{freshDesk, ticketOn}
 use Rattle.desk.specs.Open.{givenPlace, requestAt}
+use Rattle.desk.specs.Reply.{bookRefusal, replyRefusal}
 use Rattle.desk.specs.declared.Closing.{Closing}
 use Rattle.desk.specs.declared.Closing.the-variants.{Closed, Refused as NotClosed}
 use Rattle.desk.specs.declared.Desk.{Desk}
 use Rattle.nights.specs.Night.{afterAll}
-use Rattle.scan.proofs.Laws.{steps-settled, step-refusals, step-opened, done-exactly, waiting-exactly, closed-is-absent, hears-closing-settled}
+use Rattle.scan.proofs.Laws.{steps-settled, step-refusals, step-opened, done-exactly, waiting-exactly, closed-is-absent, hears-reply-settled, hears-closing-settled}
 use Rattle.scan.specs.Scan.{Steps, HearsClosing, stepTold, freshScan, request}
 use Rattle.scan.specs.declared.AfterStep.{AfterStep}
 use Rattle.scan.specs.declared.Scan.{Scan}
 use Rattle.scan.specs.declared.Stepping.{Stepping}
 use Rattle.scan.specs.declared.Stepping.the-variants.{Asked, Waiting, Done, Refused}
 use Rattle.ticket.specs.Due.{age}
-use Rattle.ticket.specs.Ticket.{withdrawnAt}
+use Rattle.ticket.specs.Fit.{fitRefusal, kindFits}
+use Rattle.ticket.specs.Ticket.{newTicket, withdrawnAt}
 use Rattle.ticket.specs.declared.Ticket.{Ticket}
-use Rattle.scans.specs.Shift.{Event, Shift, Ended, ofStep, ofClosing}
-use Rattle.scans.specs.Shift.{asked}
-use Rattle.scans.specs.Shift.{begins, steps, cancels}
+use Rattle.scans.specs.Shift.{Event, Shift, OutOn, Ended, ofStep, ofBooking, ofClosing}
+use Rattle.scans.specs.Shift.{asked, booked}
+use Rattle.scans.specs.Shift.{begins, steps, replies, cancels}
 use Rattle.scans.proofs.Laws.{any-shift, night-beside, one-job}
 
 -- an address that may be given out from 1000 ms past a clock on
@@ -110,7 +117,7 @@ module _ (job : ℕ) (real : job ≢ 0) (k : ℕ) (few : k < 160) (a : At job k)
   was-closed (Closed theirs there folder) told = (theirs, there, folder, refl)
   was-closed (NotClosed f) told = clash (cc)
 
-  -- the module is asked, and its ticket is cancelled
+  -- its ticket is cancelled
   ended : (desk : Desk) (scan : Scan) (past : List Event) (address : ℕ) → Shift job scan desk past → scan .turns ≡ k → scan .out ≡ address → address ≢ 0
       → (address ≢ 161 → Idle (1000 * k) (ticketOn desk 161)) → At job (k + 1)
   unfolding clock
@@ -151,23 +158,30 @@ module _ (job : ℕ) (real : job ≢ 0) (k : ℕ) (few : k < 160) (a : At job k)
                 let b = was .1 (sym (ap (λ (t : Ticket). t .withdrawn) is) ∙ w) in omega (arith, c, b),
           )
 
+  -- the module is asked, and what comes of that
+  module _ (Then : Type 0)
+      (then : (desk : Desk) (scan : Scan) (past : List Event) (address : ℕ) → Shift job scan desk past → scan .turns ≡ k → scan .out ≡ address → address ≢ 0
+      → (address ≢ 161 → Idle (1000 * k) (ticketOn desk 161)) → Then) where
+    once-asked : Then
+    once-asked =
+        let st = steps-settled (a .scan) (a .desk) clock room in
+        let r : AfterStep = st .outcome .0 in
+        let room′ : List ℕ = st .outcome .1 in
+        let c : Steps (a .scan) (a .desk) clock room r room′ = st .is-allowed in
+        let l = left in
+        let was = was-asked (r .answer) (none-told r room′ c)
+        (λ d. let all = done-exactly (a .scan) (a .desk) clock room r room′ c .0 d in absurd (omega (arith, all, l)))
+        (λ y w. waiting-exactly (a .scan) (a .desk) clock room r room′ c y .0 w .1 (a .free)) in
+        let t = step-opened (a .scan) (a .desk) clock room r room′ c (was .0) (was .1) (was .2) (was .3) in
+        let o = t .3 in
+        let given = opened-given (a .desk) (request (a .scan)) [] clock room (o .0) room′ (o .1) (was .0) (was .2) (night-beside (a .shift) .1 .sound .places) (o .2) in
+        let host = given .host in
+        then (r .desk) (r .scan) (ofStep (r .answer) ∷ a .past) (was .0) (steps (a .shift) clock room r room′ c)
+        (ap (λ (x : Scan). x .turns) (o .4) ∙ a .turns) (ap (λ (x : Scan). x .out) (o .4)) (λ zero. absurd (omega (arith, host, zero)))
+        (λ apart. rw (ap (λ (d : Desk). ticketOn d 161) (o .3) ∙ given .others 161 (λ x. apart (sym x))) (a .idle))
+
   one-turn : At job (k + 1)
-  one-turn =
-      let st = steps-settled (a .scan) (a .desk) clock room in
-      let r : AfterStep = st .outcome .0 in
-      let room′ : List ℕ = st .outcome .1 in
-      let c : Steps (a .scan) (a .desk) clock room r room′ = st .is-allowed in
-      let l = left in
-      let was = was-asked (r .answer) (none-told r room′ c)
-      (λ d. let all = done-exactly (a .scan) (a .desk) clock room r room′ c .0 d in absurd (omega (arith, all, l)))
-      (λ y w. waiting-exactly (a .scan) (a .desk) clock room r room′ c y .0 w .1 (a .free)) in
-      let t = step-opened (a .scan) (a .desk) clock room r room′ c (was .0) (was .1) (was .2) (was .3) in
-      let o = t .3 in
-      let given = opened-given (a .desk) (request (a .scan)) [] clock room (o .0) room′ (o .1) (was .0) (was .2) (night-beside (a .shift) .1 .sound .places) (o .2) in
-      let host = given .host in
-      ended (r .desk) (r .scan) (ofStep (r .answer) ∷ a .past) (was .0) (steps (a .shift) clock room r room′ c)
-      (ap (λ (x : Scan). x .turns) (o .4) ∙ a .turns) (ap (λ (x : Scan). x .out) (o .4)) (λ zero. absurd (omega (arith, host, zero)))
-      (λ apart. rw (ap (λ (d : Desk). ticketOn d 161) (o .3) ∙ given .others 161 (λ x. apart (sym x))) (a .idle))
+  one-turn = once-asked (At job (k + 1)) ended
 
 up-to : (job : ℕ) → job ≢ 0 → (k : ℕ) → k ≤ 160 → At job k
 up-to job real zero few = start job
@@ -178,3 +192,58 @@ pub some-shift-ends : (job : ℕ) → job ≢ 0 → (scan : Scan) × (desk : Des
 some-shift-ends job real =
     let a = up-to job real 160 (omega arith) in
     (a .scan, a .desk, a .past, a .shift, subst (λ (k : ℕ). Ended (a .past) k) (a .turns) (any-shift (a .shift) .counted))
+
+-- ---- and a module can answer: whatever type answers a read, there is a shift in which module 1 answered with it
+
+-- a telegram without data, and what a reader makes of it
+module _ (d s sort : ℕ) (real : d ≢ 0) (real′ : s ≢ 0) (known : sort ≤ 9) where
+  some-frame : (frame : List ℕ) × (readRefusal frame 0 ≡ none) × (fieldsIn frame ≡ fieldsFor d s sort 97 [])
+  some-frame =
+      let w = writes-settled d s sort 97 [] (replicate 494 0) in
+      let long = length-messageFor d s sort 97 [] in
+      let l = telegram-long (messageFor d s sort 97 []) (omega (arith, long)) in
+      let sized = length-replicate {A = ℕ} 494 0 in
+      let was = fields-written d s sort 97 [] (replicate 494 0) (w .outcome .0) (w .outcome .1) real real′ known (omega arith) (omega (arith, l, sized)) (w .is-allowed) in
+      let n = length (telegramFor d s sort 97 []) in
+      let frame = take n (w .outcome .1) in
+      let reads = reads-settled frame [] in
+      let back = reads-back d s sort 97 [] (replicate 494 0) n (w .outcome .1)
+      (subst (λ (x : Writing). Writes d s sort 97 [] (replicate 494 0) x (w .outcome .1)) (was .0) (w .is-allowed))
+      [] (reads .outcome .0) (reads .outcome .1) (omega arith) (reads .is-allowed) in
+      let read = reading-telegram frame 0 (fieldsFor d s sort 97 []) (sym (reads .is-allowed .0) ∙ back .0) in
+      (frame, read .0, sym (read .1))
+
+of-a-read : (sort : ℕ) → (sort ≡ 8) ⊎ (sort ≤ 2) → (kindFits 4 sort ≡ true) × (sort ≤ 9)
+of-a-read sort h =
+    ⊎-elim (λ eight. (rw eight refl, omega (arith, eight))) (λ low. (rw (le-leb sort 2 low) refl, omega (arith, low))) h
+
+-- it fits the ticket of module 1's turn
+fits-turn : (desk : Desk) (frame : List ℕ) (address job clock sort : ℕ) → readRefusal frame 0 ≡ none → fieldsIn frame ≡ fieldsFor address 1 sort 97 []
+    → ticketOn desk address ≡ newTicket (record { job = job; unit = 1; sort = 4; register = 97; wait = 100; folder = 0 }) clock
+    → kindFits 4 sort ≡ true → replyRefusal desk frame 0 ≡ none
+unfolding replyRefusal bookRefusal fitRefusal
+fits-turn desk frame address job clock sort read said stood fits = rw (read, said, stood, fits) refl
+
+pub some-turn-answered : (job : ℕ) → job ≢ 0 → (sort : ℕ) → (sort ≡ 8) ⊎ (sort ≤ 2)
+    → (scan : Scan) × (desk : Desk) × (address : ℕ) × (earlier : List Event) × Shift job scan desk (booked address sort ∷ earlier) × OutOn earlier 1 address
+some-turn-answered job real sort answers =
+    once-asked job real 0 (omega arith) (start job)
+    ((scan : Scan) × (desk : Desk) × (address : ℕ) × (earlier : List Event) × Shift job scan desk (booked address sort ∷ earlier) × OutOn earlier 1 address)
+    (λ desk scan past address shift none-over out some-address idle.
+    let p = any-shift shift in
+    let here = p .is-out 1 address .1 (out, some-address, omega (arith, none-over)) in
+    let stood = p .stands 1 address here in
+    let kind = of-a-read sort answers in
+    let f = some-frame address 1 sort some-address (λ zero. absurd (omega (arith, zero))) (kind .1) in
+    let c = replies-settled desk (f .0) [] in
+    let fits = fits-turn desk (f .0) address job (stood .0) sort (f .1) (f .2) (stood .1) (kind .0) in
+    let is : ofBooking (c .outcome .0 .answer) ≡ booked address sort = ap ofBooking (c .is-allowed .0) ∙ rw (fits, f .2) refl in
+    let h = hears-reply-settled scan (c .outcome .0 .answer) in (
+      h .outcome,
+      c .outcome .0 .desk,
+      address,
+      past,
+      subst (λ (e : Event). Shift job (h .outcome) (c .outcome .0 .desk) (e ∷ past)) is
+          (replies shift (f .0) [] (c .outcome .0) (c .outcome .1) (h .outcome) (c .is-allowed) (h .is-allowed)),
+      here,
+    ))

@@ -22,7 +22,7 @@ use Rattle.desk.specs.declared.Opening.{Opening}
 use Rattle.desk.specs.declared.Opening.the-variants.{Opened, Refused as NotOpened}
 use Rattle.nights.specs.Night.{Call, afterAll}
 use Rattle.request.specs.declared.Request.{Request}
-use Rattle.scan.specs.Scan.{freshScan, Steps, HearsReply, HearsClosing}
+use Rattle.scan.specs.Scan.{freshScan, heardClosing, Steps, HearsReply, HearsClosing}
 use Rattle.scan.specs.declared.AfterStep.{AfterStep}
 use Rattle.scan.specs.declared.Scan.{Scan}
 use Rattle.scan.specs.declared.Stepping.{Stepping}
@@ -82,6 +82,20 @@ pub data Shift (job : ℕ) : Scan → Desk → List Event → Type 0 where
       → Expires desk clock r → HearsClosing scan (r .answer) scan′
       → Shift job scan′ (r .desk) (ofClosing (r .answer) ∷ past)
 
+-- 02, #107's sweep: its list has job, address and folder of each ticket that it closed, and each is told to the scan, in that order
+
+unfoldable pub toldAll : Scan → List ℕ → Scan
+toldAll scan (job ∷ address ∷ folder ∷ rest) = toldAll (heardClosing scan (Closed job address folder)) rest
+toldAll scan (job ∷ address ∷ []) = scan
+toldAll scan (job ∷ []) = scan
+toldAll scan [] = scan
+
+unfoldable pub sweptAll : List ℕ → List Event → List Event
+sweptAll (job ∷ address ∷ folder ∷ rest) past = sweptAll rest (withdrawn address ∷ past)
+sweptAll (job ∷ address ∷ []) past = past
+sweptAll (job ∷ []) past = past
+sweptAll [] past = past
+
 -- ---- what is out, what is over and what became of it, by what was answered alone
 
 -- a module's ticket is out under an address: it was the last to go out there, and nothing was booked or given up there since
@@ -138,5 +152,7 @@ pub record Promised (job : ℕ) (scan : Scan) (desk : Desk) (past : List Event) 
   pub at-most : scan .turns ≤ 160
   -- of each module whose turn is over, and of no other, the result is what became of its ticket
   pub results : (n r : ℕ) → Became past n r ↔ ((1 ≤ n) × (n ≤ scan .turns) × (getD (scan .results) (n - 1) 0 ≡ r))
+  -- and of those to come it has none
+  pub to-come : (i : ℕ) → scan .turns ≤ i → getD (scan .results) i 0 ≡ 0
   -- and each event was right, by what was answered before it
   pub always : (later : List Event) (e : Event) (earlier : List Event) → past ≡ later ++ (e ∷ earlier) → Right e earlier

@@ -10,16 +10,13 @@ enum-known-answer c = search needs
 now-out-requires : tie.Need-now-out-requires
 now-out-requires c κs = search needs
 
-add-t11 : tie.Need-add-t11
-add-t11 c = search needs
-
 enum-known-answer-2 : tie.Need-enum-known-answer-2
 enum-known-answer-2 c = search needs
 
 returns : tie.Need-returns
 returns c =
-    let told = c .before .before .before .answer .given .1 in
-    (sym (ap (fromDesk _) told), c .before .now-out .ensures ∙ sym (ap (afterOpening _) told), refl, refl)
+    let told = c .before .before .answer .given .1 in
+    (sym (ap (fromDesk _) told), c .now-out .ensures ∙ sym (ap (afterOpening _) told), refl, refl)
 
 returns-2 : tie.Need-returns-2
 returns-2 c =
@@ -29,4 +26,4 @@ returns-2 c =
 pub passed-on-spec : {M : Type 1} → statement M
 passed-on-spec =
     tie.close
-    (tie.spec enum-known-answer now-out-requires add-t11 enum-known-answer-2 returns returns-2)
+    (tie.spec enum-known-answer now-out-requires enum-known-answer-2 returns returns-2)

@@ -17,8 +17,8 @@ returns-2 c =
     let s = c .before .before .before .before .before .before .args in
     step-waits (s .scan) (s .desk) (s .clock) _ _ (c .before .before .before .if1 .left) (c .before .if2 .taken) (c .stays2 .ensures)
 
-add-t10 : tie.Need-add-t10
-add-t10 c = search needs
+add-unit : tie.Need-add-unit
+add-unit c = search needs
 
 sub-open : tie.Need-sub-open
 sub-open c = search needs
@@ -52,7 +52,7 @@ step-spec =
     returns
     stays-requires-2
     returns-2
-    add-t10
+    add-unit
     sub-open
     part-open-start
     part-open-end
