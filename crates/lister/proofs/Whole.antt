@@ -35,23 +35,23 @@ use Rattle.lister.proofs.Laws.{pour-within, pour-moves}
 
 -- ---- the totals do not wrap: none is over the place
 
-pub record Counted (l : Listing) : Type 0 where
+pub record Unwrapped (l : Listing) : Type 0 where
   pub oks : l .ok ≤ l .receiver .place
   pub refusals : l .refused ≤ l .receiver .place
   pub drops : l .dropped ≤ l .receiver .place
 
 -- the totals went up by these lines
-abbrev pub Tallied : Listing → List Placed → Listing → Type 0
-Tallied l lines l′ =
+abbrev pub Totalled : Listing → List Placed → Listing → Type 0
+Totalled l lines l′ =
     (l′ .ok ≡ l .ok + total isOk lines) × (l′ .refused ≡ l .refused + total isRefused lines) × (l′ .dropped ≡ l .dropped + total isDropped lines)
 
-tallied-none : (l : Listing) → Tallied l [] l
-tallied-none l =
+totalled-none : (l : Listing) → Totalled l [] l
+totalled-none l =
     let z : (counts : Event → ℕ) (n : ℕ) → n ≡ n + total counts [] = λ counts n. sym (add-zero n) ∙ ap (λ (k : ℕ). n + k) (sym (no-total counts)) in
     (z isOk (l .ok), z isRefused (l .refused), z isDropped (l .dropped))
 
-tallied-then : (l l′ l″ : Listing) (a b : List Placed) → Tallied l a l′ → Tallied l′ b l″ → Tallied l (a ++ b) l″
-tallied-then l l′ l″ a b p q = (more isOk (l .ok) (p .0) (q .0), more isRefused (l .refused) (p .1) (q .1), more isDropped (l .dropped) (p .2) (q .2))
+totalled-then : (l l′ l″ : Listing) (a b : List Placed) → Totalled l a l′ → Totalled l′ b l″ → Totalled l (a ++ b) l″
+totalled-then l l′ l″ a b p q = (more isOk (l .ok) (p .0) (q .0), more isRefused (l .refused) (p .1) (q .1), more isDropped (l .dropped) (p .2) (q .2))
   where
     more : (counts : Event → ℕ) (x : ℕ) {y z : ℕ} → y ≡ x + total counts a → z ≡ y + total counts b → z ≡ x + total counts (a ++ b)
     more counts x e f = let j : total counts (a ++ b) ≡ total counts a + total counts b = total-append counts a b in omega arith
@@ -62,12 +62,12 @@ pub record Went (l : Listing) (chunk : List ℕ) (l′ : Listing) (text left : L
   pub lines : List Placed
   pub text-is : text ≡ linesText lines
   pub moved : Moved (l .receiver) chunk (l′ .receiver) lines left
-  pub tallied : Tallied l lines l′
-  pub counted-is : Counted l′
+  pub totalled : Totalled l lines l′
+  pub unwrapped-is : Unwrapped l′
 
-went-none : (l : Listing) (chunk : List ℕ) → Held (l .receiver) → Counted l → Went l chunk l [] chunk
+went-none : (l : Listing) (chunk : List ℕ) → Held (l .receiver) → Unwrapped l → Went l chunk l [] chunk
 went-none l chunk h g =
-    record { lines = []; text-is = sym no-line; moved = not-moved (l .receiver) chunk h; tallied = tallied-none l; counted-is = g }
+    record { lines = []; text-is = sym no-line; moved = not-moved (l .receiver) chunk h; totalled = totalled-none l; unwrapped-is = g }
 
 went-with : {l l′ l″ : Listing} {chunk chunk₁ chunk₂ left left₁ left₂ a b : List ℕ} (p : Went l chunk₁ l′ a left₁) (q : Went l′ chunk₂ l″ b left₂)
     → Moved (l .receiver) chunk (l″ .receiver) (p .lines ++ q .lines) left → Went l chunk l″ (a ++ b) left
@@ -76,8 +76,8 @@ went-with {l} {l′} {l″} p q both =
       lines = p .lines ++ q .lines;
       text-is = ap₂ (λ (x y : List ℕ). x ++ y) (p .text-is) (q .text-is) ∙ sym (lines-append (p .lines) (q .lines));
       moved = both;
-      tallied = tallied-then l l′ l″ (p .lines) (q .lines) (p .tallied) (q .tallied);
-      counted-is = q .counted-is;
+      totalled = totalled-then l l′ l″ (p .lines) (q .lines) (p .totalled) (q .totalled);
+      unwrapped-is = q .unwrapped-is;
     }
 
 went-then : {l l′ l″ : Listing} {chunk left left′ a b : List ℕ} → Went l chunk l′ a left → Went l′ left l″ b left′ → Went l chunk l″ (a ++ b) left′
@@ -94,14 +94,14 @@ one-most (Refused f) = rw (no-total isOk, no-total isRefused, no-total isDropped
 plus-is : (n more place : ℕ) → n ≤ place → more ≤ 1 → place < largest → plus n more ≡ n + more
 plus-is n more place a b c = mod-eq-of-lt (omega arith)
 
-went-byte : (l : Listing) (b : ℕ) (rest : List ℕ) → Held (l .receiver) → Counted l → l .receiver .place < largest → Went l (b ∷ rest) (onward l b) (textTold l b) rest
+went-byte : (l : Listing) (b : ℕ) (rest : List ℕ) → Held (l .receiver) → Unwrapped l → l .receiver .place < largest → Went l (b ∷ rest) (onward l b) (textTold l b) rest
 went-byte l b rest h g under =
     record {
       lines = lineIn (told (l .receiver) b);
       text-is = refl;
       moved = moved-byte (l .receiver) b rest h;
-      tallied = (oks, refusals, drops);
-      counted-is =
+      totalled = (oks, refusals, drops);
+      unwrapped-is =
           record {
             oks = on (g .oks) (most .0) oks;
             refusals = on (g .refusals) (most .1) refusals;
@@ -126,14 +126,14 @@ went-byte l b rest h g under =
 
 -- ---- a call
 
-pub pour-went : (l : Listing) (room : ℕ) (chunk : List ℕ) → Held (l .receiver) → Counted l → Fits (l .receiver .place) chunk
+pub pour-went : (l : Listing) (room : ℕ) (chunk : List ℕ) → Held (l .receiver) → Unwrapped l → Fits (l .receiver .place) chunk
     → Went l chunk (pour l room chunk .listing) (pour l room chunk .text) (drop (pour l room chunk .taken) chunk)
 unfolding pour
 pour-went l room [] h g fits = went-none l [] h g
 pour-went l room (b ∷ rest) h g fits =
     let one = went-byte l b rest h g (omega arith) in
     let place : next (l .receiver) b .place ≡ l .receiver .place + 1 = next-place (l .receiver) b in
-    go (ltb room longestLine) one (pour-went (onward l b) (room - length (textTold l b)) rest (one .moved .held) (one .counted-is) (omega arith))
+    go (ltb room longestLine) one (pour-went (onward l b) (room - length (textTold l b)) rest (one .moved .held) (one .unwrapped-is) (omega arith))
   where
     later : Poured
     later = pour (onward l b) (room - length (textTold l b)) rest
@@ -170,7 +170,7 @@ pub record Through (l : Listing) (chunk : List ℕ) (n : ℕ) (p : Poured) : Typ
   pub all : length chunk ≤ n → p .taken ≡ length chunk
 
 -- one call, and then what came of the others
-module _ (room n : ℕ) (l : Listing) (chunk : List ℕ) (space : longestLine ≤ room) (held : Held (l .receiver)) (g : Counted l) (fits : Fits (l .receiver .place) chunk) where
+module _ (room n : ℕ) (l : Listing) (chunk : List ℕ) (space : longestLine ≤ room) (held : Held (l .receiver)) (g : Unwrapped l) (fits : Fits (l .receiver .place) chunk) where
   first : Went l chunk (pour l room chunk .listing) (pour l room chunk .text) (drop (pour l room chunk .taken) chunk)
   first = pour-went l room chunk held g fits
 
@@ -203,7 +203,7 @@ module _ (room n : ℕ) (l : Listing) (chunk : List ℕ) (space : longestLine �
           omega (arith, in-chunk, left-is)
 
 module _ (rooms : ℕ → ℕ) (space : (n : ℕ) → longestLine ≤ rooms n) where
-  pub pours-through : (n : ℕ) (l : Listing) (chunk : List ℕ) → Held (l .receiver) → Counted l → Fits (l .receiver .place) chunk → Through l chunk n (pours rooms n l chunk)
+  pub pours-through : (n : ℕ) (l : Listing) (chunk : List ℕ) → Held (l .receiver) → Unwrapped l → Fits (l .receiver .place) chunk → Through l chunk n (pours rooms n l chunk)
   unfolding pours
   pours-through zero l chunk h g fits = record { went = went-none l chunk h g; within = omega arith; all = λ e. omega arith }
   pours-through (suc n) l chunk h g fits =
@@ -213,10 +213,10 @@ module _ (rooms : ℕ → ℕ) (space : (n : ℕ) → longestLine ≤ rooms n) w
       let next-listing : Listing = pour l (rooms (l .receiver .place)) chunk .listing in
       rw (call-is l (rooms (l .receiver .place)) chunk fits)
       (through-then (rooms (l .receiver .place)) n l chunk wide h g fits (pours rooms n next-listing left)
-      (pours-through n next-listing left (one .moved .held) (one .counted-is) (still-fits (rooms (l .receiver .place)) n l chunk wide h g fits)))
+      (pours-through n next-listing left (one .moved .held) (one .unwrapped-is) (still-fits (rooms (l .receiver .place)) n l chunk wide h g fits)))
 
   -- a piece, all of it
-  piece-went : (l : Listing) (piece : List ℕ) → Held (l .receiver) → Counted l → Fits (l .receiver .place) piece
+  piece-went : (l : Listing) (piece : List ℕ) → Held (l .receiver) → Unwrapped l → Fits (l .receiver .place) piece
       → Went l piece (pours rooms (length piece) l piece .listing) (pours rooms (length piece) l piece .text) []
   piece-went l piece h g fits =
       let through = pours-through (length piece) l piece h g fits in
@@ -224,7 +224,7 @@ module _ (rooms : ℕ → ℕ) (space : (n : ℕ) → longestLine ≤ rooms n) w
 
   -- ---- pieces
 
-  pub pieces-went : (l : Listing) (pieces : List (List ℕ)) → Held (l .receiver) → Counted l → Fits (l .receiver .place) (joined pieces)
+  pub pieces-went : (l : Listing) (pieces : List (List ℕ)) → Held (l .receiver) → Unwrapped l → Fits (l .receiver .place) (joined pieces)
       → Went l (joined pieces) (poursAll rooms l pieces .listing) (poursAll rooms l pieces .text) []
   unfolding poursAll joined
   pieces-went l [] h g fits = went-none l [] h g
@@ -232,13 +232,13 @@ module _ (rooms : ℕ → ℕ) (space : (n : ℕ) → longestLine ≤ rooms n) w
       let long : length (piece ++ joined pieces) ≡ length piece + length (joined pieces) = length-append piece (joined pieces) in
       let one = piece-went l piece h g (omega arith) in
       let place : pours rooms (length piece) l piece .listing .receiver .place ≡ l .receiver .place + length piece = place-after (one .moved) in
-      let more = pieces-went (pours rooms (length piece) l piece .listing) pieces (one .moved .held) (one .counted-is) (omega arith) in
+      let more = pieces-went (pours rooms (length piece) l piece .listing) pieces (one .moved .held) (one .unwrapped-is) (omega arith) in
       went-with one more (moved-joined {b = more .lines} (one .moved) (more .moved))
 
 -- ---- "it writes exactly this"
 
-fresh-counted : (place : ℕ) → Counted (beginAt place)
-fresh-counted place = record { oks = omega arith; refusals = omega arith; drops = omega arith }
+fresh-unwrapped : (place : ℕ) → Unwrapped (beginAt place)
+fresh-unwrapped place = record { oks = omega arith; refusals = omega arith; drops = omega arith }
 
 -- the open frame's line
 open-text : (r : Receiver) → linesText (openLine r) ≡ cond (isInside r) (lineText (r .start) Open) []
@@ -274,7 +274,7 @@ module _ (place : ℕ) (bytes : List ℕ) (l : Listing) (text : List ℕ) (w : W
   -- 01: "totals made up (they equal the numbers of such lines)"
   pub totals-are :
       (l .ok ≡ total isOk (eventsFrom place bytes)) × (l .refused ≡ total isRefused (eventsFrom place bytes)) × (l .dropped ≡ total isDropped (eventsFrom place bytes))
-  totals-are = (all-counted isOk refl (w .tallied .0), all-counted isRefused refl (w .tallied .1), all-counted isDropped refl (w .tallied .2))
+  totals-are = (all-counted isOk refl (w .totalled .0), all-counted isRefused refl (w .totalled .1), all-counted isDropped refl (w .totalled .2))
 
   pub whole-text : text ++ endText l
       ≡ linesText (eventsFrom place bytes)
@@ -291,4 +291,4 @@ unfolding listingText eventsOf
 listed rooms space pieces fits =
     ap (λ (l : List ℕ). headerText ++ l)
     (whole-text 0 (joined pieces) (poursAll rooms (beginAt 0) pieces .listing) (poursAll rooms (beginAt 0) pieces .text)
-    (pieces-went rooms space (beginAt 0) pieces length-none (fresh-counted 0) (omega arith)))
+    (pieces-went rooms space (beginAt 0) pieces length-none (fresh-unwrapped 0) (omega arith)))
