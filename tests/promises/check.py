@@ -142,6 +142,8 @@ def check_call(call, row):
         return
     if call.unsaid:
         fault(call.path, f"the `ensures` of {name} does not speak of {', '.join(call.unsaid)}")
+    if call.beside:
+        fault(call.path, f"the `ensures` of {name} speaks of {', '.join(call.beside)}, which it is not given and no specs/ defines")
     if call.home is None:
         fault(call.path, f"{name} promises {call.contract}, which no `ghost use` brings from a specs/")
         return

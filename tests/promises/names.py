@@ -103,6 +103,9 @@ class Call:
         given = re.findall(r"[(,]\s*(?:mut\s+)?(\w+)\s*:", said.split("ensures")[0])
         lent = [f"{room} .exit" for room in re.findall(r"(\w+):\s*&\s*mut\b", said)]
         self.unsaid = [part for part in given + lent + [answer] * ("->" in said) if not re.search(rf"\b{part}\b", relation)]
+        # and what it may speak of: each of these as it is, or what a definition of a specs/ makes of it, but no number and no sum
+        known = {*given, answer, "now", "entry", "exit", *uses}
+        self.beside = [word for word in re.findall(r"[^\s().«»]+", relation) if word not in known]
         self.home = uses.get(self.contract)
 
 
