@@ -108,7 +108,8 @@ pub use Rattle.scan.proofs.Laws.{make-is as scan-make-is, make-results, result-
 pub use Rattle.scans.proofs.Laws.{any-shift, one-job}
 pub use Rattle.scans.proofs.JobZero.{job-0-stays, job-0-for-ever}
 pub use Rattle.scans.proofs.Whole.{some-shift-ends, some-turn-answered}
-pub use Rattle.scans.proofs.Sweep.{goes-on-sweep}
+pub use Rattle.scans.proofs.Sweep.{goes-on-sweep, sweep-plainly}
+pub use Rattle.scans.proofs.Plainly.{shift-only, written-down, none-to-come}
 pub use Rattle.scans.proofs.Plainly.{out-stands as scan-out-stands, none-is-out as none-of-the-scan-is-out, asked-in-turn, end-between, out-or-ended, not-given-away, answered-by}
 pub use Rattle.scans.proofs.Plainly.{turns-are, ended-once, done-after-160, done-for-ever, one-result, found-1, found-2, found-absent, refused-again}
 -- ---- 02, #107: everything due is expired as by single calls, and the nights count each of its closings

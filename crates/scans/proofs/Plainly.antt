@@ -40,6 +40,39 @@ use Rattle.scans.specs.Shift.{begins, steps, opens, replies, cancels, ex
 pub begins-plainly : (job : ℕ) (calls : List Call) → Shift job (record { job = job; turns = 0; out = 0; results = replicate 160 0 }) (afterAll freshDesk calls) []
 begins-plainly job calls = begins calls
 
+-- ---- and whatever is a shift began so, or came by one call from a shift: a step, an opening, a reply, a cancel or an expiry, as its contract
+-- allows it, with that answer told to the scan and written down
+
+pub shift-only : {job : ℕ} {scan : Scan} {desk : Desk} {past : List Event} → Shift job scan desk past
+    → ((scan ≡ record { job = job; turns = 0; out = 0; results = replicate 160 0 }) × ((calls : List Call) × (desk ≡ afterAll freshDesk calls)) × (past ≡ []))
+    ⊎ ((s : Scan) × (d : Desk) × (earlier : List Event) × Shift job s d earlier
+    × (((clock : ℕ) × (room : List ℕ) × (r : AfterStep) × (room′ : List ℕ) × Steps s d clock room r room′
+    × (scan ≡ r .scan) × (desk ≡ r .desk) × (past ≡ ofStep (r .answer) ∷ earlier))
+    ⊎ (((what : Request) × (bytes : List ℕ) × (clock : ℕ) × (room : List ℕ) × (r : AfterOpen) × (room′ : List ℕ) × Opens d what bytes clock room r room′
+    × (scan ≡ s) × (desk ≡ r .desk) × (past ≡ ofOpening (r .answer) ∷ earlier))
+    ⊎ (((frame : List ℕ) × (room : List ℕ) × (r : AfterReply) × (room′ : List ℕ) × Replies d frame room r room′ × HearsReply s (r .answer) scan
+    × (desk ≡ r .desk) × (past ≡ ofBooking (r .answer) ∷ earlier))
+    ⊎ ((r : AfterClose)
+    × (((theirs : ℕ) × (address : ℕ) × (clock : ℕ) × Cancels d theirs address clock r) ⊎ ((clock : ℕ) × Expires d clock r))
+    × HearsClosing s (r .answer) scan × (desk ≡ r .desk) × (past ≡ ofClosing (r .answer) ∷ earlier))))))
+shift-only (begins calls) = inl (refl, (calls, refl), refl)
+shift-only (steps shift clock room r room′ c) = inr (_, _, _, shift, inl (clock, room, r, room′, c, refl, refl, refl))
+shift-only (opens shift what bytes clock room r room′ c) = inr (_, _, _, shift, inr (inl (what, bytes, clock, room, r, room′, c, refl, refl, refl)))
+shift-only (replies shift frame room r room′ scan′ c told) = inr (_, _, _, shift, inr (inr (inl (frame, room, r, room′, c, told, refl, refl))))
+shift-only (cancels shift theirs address clock r scan′ c told) =
+    inr (_, _, _, shift, inr (inr (inr (r, inl (theirs, address, clock, c), told, refl, refl))))
+shift-only (expires shift clock r scan′ c told) = inr (_, _, _, shift, inr (inr (inr (r, inr (clock, c), told, refl, refl))))
+
+-- an answer is written down as this event
+pub written-down : (address unit n theirs sort size folder : ℕ)
+    → (ofStep (Asked address unit n) ≡ asked unit address)
+    × (ofStep (Waiting address) ≡ nothing)
+    × (ofStep Done ≡ nothing)
+    × (ofOpening (Opened address n) ≡ opened address)
+    × (ofBooking (Booked theirs address sort size folder) ≡ booked address sort)
+    × (ofClosing (Closed theirs address folder) ≡ withdrawn address)
+written-down address unit n theirs sort size folder = (refl, refl, refl, refl, refl, refl)
+
 by-closing : {job : ℕ} {past : List Event} (r : AfterClose) (scan′ : Scan) → Shift job scan′ (r .desk) (ofClosing (r .answer) ∷ past)
     → ((theirs there folder : ℕ) → r .answer ≡ Closed theirs there folder → Shift job scan′ (r .desk) (withdrawn there ∷ past))
     × ((f : _) → r .answer ≡ NotClosed f → Shift job scan′ (r .desk) (nothing ∷ past))
@@ -240,6 +273,10 @@ module _ (before : List Event) (n a : ℕ) where
 module _ {job : ℕ} {scan : Scan} {desk : Desk} {past : List Event} (shift : Shift job scan desk past) where
   p : Promised job scan desk past
   p = any-shift shift
+
+  -- nothing is told of a turn that is to come
+  pub none-to-come : (i : ℕ) → scan .turns ≤ i → getD (scan .results) i 0 ≡ 0
+  none-to-come = p .to-come
 
   -- "The scan has one job number and folder 0": what it has out is the one ticket of its that is out, and it stands open
   pub out-stands : scan .out ≢ 0

@@ -11,11 +11,24 @@ use Rattle.desk.specs.declared.Desk.{Desk}
 use Rattle.overdue.proofs.Laws.{expired-is, filled}
 use Rattle.overdue.specs.Overdue.{expired, listed, entries, deskAfter, roomIn, ExpiresAll}
 use Rattle.overdue.specs.declared.Swept.{Swept}
-use Rattle.scan.specs.Scan.{heardClosing}
+use Rattle.scan.specs.Scan.{heardClosing, HearsClosing}
 use Rattle.scan.specs.declared.Scan.{Scan}
 use Rattle.scans.specs.Shift.{Event, Shift, ofClosing, toldAll, sweptAll}
 use Rattle.scans.specs.Shift.{withdrawn}
 use Rattle.scans.specs.Shift.{expires}
+
+-- each entry of the list is one closing that the scan is told, in the list's order, and one event; what is left of an entry is none
+pub sweep-plainly : (scan scan′ : Scan) (job address folder : ℕ) (rest : List ℕ) (past : List Event) → HearsClosing scan (Closed job address folder) scan′
+    → (toldAll scan (job ∷ address ∷ folder ∷ rest) ≡ toldAll scan′ rest)
+    × (sweptAll (job ∷ address ∷ folder ∷ rest) past ≡ sweptAll rest (withdrawn address ∷ past))
+    × (toldAll scan [] ≡ scan)
+    × (sweptAll [] past ≡ past)
+    × (toldAll scan (job ∷ []) ≡ scan)
+    × (sweptAll (job ∷ []) past ≡ past)
+    × (toldAll scan (job ∷ address ∷ []) ≡ scan)
+    × (sweptAll (job ∷ address ∷ []) past ≡ past)
+unfolding toldAll sweptAll
+sweep-plainly scan scan′ job address folder rest past told = (ap (λ (s : Scan). toldAll s rest) (sym told), refl, refl, refl, refl, refl, refl, refl)
 
 -- where nothing is due, nothing changes
 stays : (n : ℕ) (desk : Desk) (clock : ℕ) → expired desk clock .desk ≡ desk → deskAfter n desk clock ≡ desk
