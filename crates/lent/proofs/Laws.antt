@@ -10,7 +10,7 @@ use lib.ListN.{length, getD, take, drop, set}
 use lib.Seq.{drop-cons}
 use Rattle.rows.proofs.Settled.{settled}
 use Rattle.rows.specs.Settled.{Settled}
-use Rattle.lent.specs.Lent.{over, overAt, Lays}
+use Rattle.lent.specs.Lent.{over, overAt, Lays, Moves}
 
 -- a walk along a list, one step on
 pub drop-next : (xs : List ℕ) (i : ℕ) → i < length xs → drop i xs ≡ getD xs i 0 ∷ drop (i + 1) xs
@@ -80,3 +80,6 @@ overAt-zero xs d = refl
 -- "Show that any two outcomes allowed by it are equal."
 pub lays-settled : (bytes : List ℕ) (at : ℕ) (room : List ℕ) → Settled (Lays bytes at room)
 lays-settled bytes at room = settled _
+
+pub moves-settled : (room : List ℕ) (from to size : ℕ) → Settled (Moves room from to size)
+moves-settled room from to size = settled _
