@@ -17,7 +17,7 @@ use Rattle.rows.specs.Settled.{Settled}
 use Rattle.setting.specs.declared.Head.{Head}
 use Rattle.setting.specs.declared.Fault.{Fault}
 use Rattle.setting.specs.Setting.{lengthOf, lengthsTo, Above, Allowed, Some, Falls, Unfit, headOf, tailOf, rowsIn, heads, tails, isAbove}
-use Rattle.setting.specs.Setting.{isAllowed, falls, unfit, someOf, Numbers, Measures, NamesRow, TellsRow, FindsFall, FindsUnfit}
+use Rattle.setting.specs.Setting.{isAllowed, falls, unfit, someOf, Numbers, Measures, NamesRow, TellsRow, FindsFall, FindsUnfit, FindsPlace, Allows}
 
 -- ---- tests decide the conditions
 
@@ -141,3 +141,9 @@ finds-fall-settled rows = settled _
 
 pub finds-unfit-settled : (rows : List ℕ) → Settled (FindsUnfit rows)
 finds-unfit-settled rows = settled _
+
+pub finds-place-settled : (rows : List ℕ) (h : Head) → Settled (FindsPlace rows h)
+finds-place-settled rows h = settled _
+
+pub allows-settled : (h : Head) → Settled (Allows h)
+allows-settled h = settled _

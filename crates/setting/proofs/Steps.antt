@@ -16,7 +16,7 @@ use Rattle.values.specs.Values.{Bytes, sizeOf, natural}
 use Rattle.values.proofs.Bytes.{bytes-drop}
 use Rattle.values.proofs.Sized.{size-le}
 use Rattle.setting.specs.declared.Head.{Head}
-use Rattle.setting.specs.Setting.{head, lengthOf, lengthsTo, headOf, tailOf, rowsIn, heads, tails, isAbove, isAllowed, falls, unfit, someOf}
+use Rattle.setting.specs.Setting.{head, lengthOf, lengthsTo, headOf, tailOf, rowsIn, heads, tails, isAbove, isAllowed, falls, unfit, notBelow, someOf}
 use Rattle.first.specs.First.{firstPlace}
 use Rattle.first.proofs.Laws.{first-at, first-none}
 use Rattle.setting.proofs.Laws.{heads-at, tails-at}
@@ -82,6 +82,10 @@ fall-told rows (suc k) l p q e =
 pub unfit-told : (rows : List ℕ) (k : ℕ) {h : Head} {t : Bool} → h ≡ heads rows k → t ≡ isAllowed h → unfit (heads rows) k ≡ not t
 unfolding unfit
 unfit-told rows k p e = rw (e, p)
+
+-- and what that of a row with a head does
+pub below-told : (rows : List ℕ) (h : Head) (k : ℕ) {a : Head} {t : Bool} → a ≡ heads rows k → t ≡ isAbove a h → notBelow h (heads rows) k ≡ not t
+below-told rows h k p e = rw (e, p)
 
 pub first-falls : (rows : List ℕ) → falls (heads rows) 0 ≡ false
 unfolding falls

@@ -124,7 +124,15 @@ faultNumber NoSuchRecord = 56
 faultNumber NoRoom = 57
 faultNumber TooMany = 79
 
+-- a row does not stand below a head
+abbrev pub notBelow : Head → (ℕ → Head) → ℕ → Bool
+notBelow h at k = not (isAbove (at k) h)
+
 -- ---- the contracts
+
+-- whether such a setting is allowed
+abbrev pub Allows : Head → Bool → Type 0
+Allows h r = r ≡ isAllowed h
 
 abbrev pub Numbers : Fault → ℕ → Type 0
 Numbers fault r = r ≡ faultNumber fault
@@ -147,3 +155,7 @@ FindsFall rows r = r ≡ firstPlace (falls (heads rows)) (rowsIn rows)
 -- the first row that is not allowed; how many rows there are where each is
 abbrev pub FindsUnfit : List ℕ → ℕ → Type 0
 FindsUnfit rows r = r ≡ firstPlace (unfit (heads rows)) (rowsIn rows)
+
+-- the first row that does not stand below a head; how many rows there are where each does
+abbrev pub FindsPlace : List ℕ → Head → ℕ → Type 0
+FindsPlace rows h r = r ≡ firstPlace (notBelow h (heads rows)) (rowsIn rows)

@@ -2,7 +2,7 @@
 // register, kind, element count, and a number of 4 bytes. Here is what a row says, which are allowed,
 // and whether they rise; `specs/Setting.antt` says so.
 ghost use mathlib.Core.Path.{_≡_};
-ghost use Rattle.setting.specs.Setting.{Numbers, Measures, NamesRow, TellsRow, FindsFall, FindsUnfit, isAbove, isAllowed};
+ghost use Rattle.setting.specs.Setting.{Numbers, Measures, Allows, NamesRow, TellsRow, FindsFall, FindsUnfit, FindsPlace, isAbove};
 
 // How many bytes a row has.
 pub const ROW: usize = 8;
@@ -115,6 +115,23 @@ fn is_above(a: Head, b: Head) -> bool
     a.unit < b.unit
 }
 
+// The first row that does not stand below a head: where its setting stands, or would stand if the
+// rows rise; how many rows there are where each stands below it.
+pub fn place_of(rows: &[u8], head: Head) -> usize
+    ensures { λ r. ⌜ FindsPlace (now (rows .entry)) head r ⌝ }
+{
+    let n = rows.len() / ROW;
+    let mut k = 0;
+    while k < n {
+        if is_above(head_at(rows, k), head) {
+            k += 1;
+        } else {
+            return k;
+        }
+    }
+    n
+}
+
 // The first row that is not allowed; how many rows there are where each is.
 pub fn first_unfit(rows: &[u8]) -> usize
     ensures { λ r. ⌜ FindsUnfit (now (rows .entry)) r ⌝ }
@@ -132,8 +149,8 @@ pub fn first_unfit(rows: &[u8]) -> usize
 }
 
 // Whether module, kind and count are allowed.
-fn is_allowed(head: Head) -> bool
-    ensures { λ r. ⌜ r ≡ isAllowed head ⌝ }
+pub fn is_allowed(head: Head) -> bool
+    ensures { λ r. ⌜ Allows head r ⌝ }
 {
     if head.unit < 1 {
         return false;
