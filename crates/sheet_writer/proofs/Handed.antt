@@ -61,7 +61,7 @@ stated rows values n =
 
 -- ---- then the records laid row by row are those of the settings
 
-lengths-from : (rows : List ℕ) (k : ℕ) → k ≤ rowsIn rows → lengthsTo (headFrom rows) k ≡ lengthsTo (heads rows) k
+pub lengths-from : (rows : List ℕ) (k : ℕ) → k ≤ rowsIn rows → lengthsTo (headFrom rows) k ≡ lengthsTo (heads rows) k
 lengths-from rows k h = lengths-same (headFrom rows) (heads rows) k (λ j l. sym (heads-at rows j (omega arith)))
 
 laid-from : (rows values : List ℕ) (m k : ℕ) → k + m ≤ rowsIn rows → lengthsTo (heads rows) (rowsIn rows) ≤ length values
@@ -85,14 +85,14 @@ laid-from rows values (suc m) k h room =
         let e : 8 * k + 8 ≡ 8 * suc k = omega arith in
         drop-drop 8 (8 * k) rows ∙ ap (λ (i : ℕ). drop i rows) e
 
-records-laid : (rows values : List ℕ) → Stated rows values → recordsFor 0 (handed rows values) ≡ laidFrom (heads rows) 0 (rowsIn rows)
+records-laid : (rows values : List ℕ) → length values ≡ lengthsTo (heads rows) (rowsIn rows) → recordsFor 0 (handed rows values) ≡ laidFrom (heads rows) 0 (rowsIn rows)
 unfolding handed lengthsTo
-records-laid rows values s = laid-from rows values (rowsIn rows) 0 (omega arith) (omega (arith, s .all))
+records-laid rows values all = laid-from rows values (rowsIn rows) 0 (omega arith) (omega (arith, all))
 
-pub values-laid : (rows values : List ℕ) → Stated rows values → valuesFor (handed rows values) ≡ values
+pub values-laid : (rows values : List ℕ) → length values ≡ lengthsTo (heads rows) (rowsIn rows) → valuesFor (handed rows values) ≡ values
 unfolding handed
-values-laid rows values s =
-    let total : lengthsTo (headFrom rows) (rowsIn rows) ≡ length values = lengths-from rows (rowsIn rows) (omega arith) ∙ sym (s .all) in
+values-laid rows values all =
+    let total : lengthsTo (headFrom rows) (rowsIn rows) ≡ length values = lengths-from rows (rowsIn rows) (omega arith) ∙ sym all in
     let none : drop (lengthsTo (headFrom rows) (rowsIn rows)) values ≡ [] =
     drop-of-length-le values {i = lengthsTo (headFrom rows) (rowsIn rows)} (omega (arith, total)) in
     sym (append-nil (valuesFor (settingsIn (rowsIn rows) rows values)))
@@ -102,13 +102,13 @@ pub many-handed : (rows values : List ℕ) → length (handed rows values) ≡ r
 unfolding handed
 many-handed rows values = length-settings (rowsIn rows) rows values
 
-pub sheet-laid : (rows values : List ℕ) → Stated rows values
+pub sheet-laid : (rows values : List ℕ) → length values ≡ lengthsTo (heads rows) (rowsIn rows)
     → sheetOf (handed rows values) ≡ headerFor (rowsIn rows) ++ (laidFrom (heads rows) 0 (rowsIn rows) ++ values)
 unfolding sheetOf
-sheet-laid rows values s = rw (many-handed rows values, records-laid rows values s, values-laid rows values s)
+sheet-laid rows values all = rw (many-handed rows values, records-laid rows values all, values-laid rows values all)
 
-pub length-laid : (rows values : List ℕ) → Stated rows values → length (sheetOf (handed rows values)) ≡ 12 + 8 * rowsIn rows + length values
-length-laid rows values s = rw (length-sheet (handed rows values), many-handed rows values, values-laid rows values s)
+pub length-laid : (rows values : List ℕ) → length values ≡ lengthsTo (heads rows) (rowsIn rows) → length (sheetOf (handed rows values)) ≡ 12 + 8 * rowsIn rows + length values
+length-laid rows values all = rw (length-sheet (handed rows values), many-handed rows values, values-laid rows values all)
 
 -- ---- and what is taken is all that was handed over: no byte of the rows or of the values is passed over
 
@@ -135,7 +135,7 @@ rows-again (suc n) rows values b e told room =
 
 pub handed-exactly : (rows values : List ℕ) → Bytes rows → Stated rows values → (rows ≡ rowsFor (handed rows values)) × (values ≡ valuesFor (handed rows values))
 unfolding handed
-handed-exactly rows values b s = (sym again, sym (values-laid rows values s))
+handed-exactly rows values b s = (sym again, sym (values-laid rows values (s .all)))
   where
     n : ℕ
     n = rowsIn rows

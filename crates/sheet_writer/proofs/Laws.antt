@@ -14,7 +14,7 @@ use Rattle.lent.specs.Lent.{over}
 use Rattle.lent.proofs.Laws.{over-is, take-over}
 use Rattle.rows.specs.Rows.{NoRow, Numbered, passedUp, raised}
 use Rattle.rows.proofs.Laws.{Decides, decides-eq, decides-not, done-exactly, numbered, clash}
-use Rattle.rows.proofs.Settled.{settled-with}
+use Rattle.rows.proofs.Settled.{settled, settled-with}
 use Rattle.rows.specs.Settled.{Settled}
 use Rattle.values.specs.Values.{Bytes}
 use Rattle.setting.specs.declared.Fault.{Fault}
@@ -26,7 +26,7 @@ use Rattle.sheet.specs.Promised.{Sized}
 use Rattle.sheet.proofs.Rowed.{rowsBy, length-rows, many-rows, heads-by, tails-by, settings-back}
 use Rattle.sheet.proofs.Written.{length-values, sheet-right, held-of-sheet, sheet-most}
 use Rattle.sheet_writer.specs.Writer.{rowsFor, handed, AreMany, HaveFall, Misstated, HaveWrongLength, HaveUnfit, IsNarrow, writeRows}
-use Rattle.sheet_writer.specs.Writer.{writeRefusal, writeAnswer, writeTold, Writes}
+use Rattle.sheet_writer.specs.Writer.{writeRefusal, writeAnswer, writeTold, Writes, LaysAgain}
 use Rattle.sheet_writer.specs.declared.Writing.{Writing}
 use Rattle.sheet_writer.specs.declared.Writing.the-variants as writing
 use Rattle.sheet_writer.specs.Promised.{Written}
@@ -281,3 +281,6 @@ told-number f k n p = (ap some (sym p), refl)
 
 pub writes-settled : (rows values room : List ℕ) → Settled {A = Writing × List ℕ} (λ o. Writes rows values room (o .0) (o .1))
 writes-settled rows values room = settled-with _ _
+
+pub lays-again-settled : (n : ℕ) (room : List ℕ) → Settled (LaysAgain n room)
+lays-again-settled n room = settled _

@@ -11,19 +11,23 @@ use native.Mathlib.Numerals.{add-one}
 use native.Mathlib.Omega.{arith}
 use borrow.Author.Tests.{lt-ltb, le-ltb, eq-eqb, ne-eqb}
 use lib.Dec.{eqb}
-use lib.ListN.{length, length-append}
+use lib.ListN.{length, take, drop, length-append, length-drop}
+use lib.Seq.{length-take-le, drop-drop}
 use Rattle.lent.specs.Lent.{over, overAt}
 use Rattle.lent.proofs.Laws.{overAt-none, overAt-append, overAt-zero}
+use Rattle.lent.proofs.Moving.{drop-past, drop-take, overAt-ahead}
 use Rattle.first.specs.First.{firstPlace}
-use Rattle.values.specs.Values.{bytesOf}
+use Rattle.values.specs.Values.{Bytes, bytesOf}
+use Rattle.values.proofs.Bytes.{bytes-take, bytes-drop}
 use Rattle.setting.specs.declared.Head.{Head}
 use Rattle.setting.specs.declared.Fault.the-variants.{OutOfOrder, NotAllowed, NoRoom, TooMany}
-use Rattle.setting.specs.Setting.{lengthOf, lengthsTo, rowsIn, heads, tails, falls, unfit, someOf}
+use Rattle.setting.specs.Setting.{lengthOf, lengthsTo, headOf, rowsIn, heads, tails, falls, unfit, someOf}
+use Rattle.setting.proofs.Laws.{heads-at}
 use Rattle.setting.proofs.Steps.{some-found, nothing-found, some-at, some-none}
 use Rattle.sheet.specs.Sheet.{headerFor, recordFor, sheetOf}
 use Rattle.sheet.proofs.Rowed.{length-record}
 use Rattle.sheet.proofs.Written.{length-header}
-use Rattle.sheet_writer.specs.Writer.{handed, misstated, isMisstated, writeRefusal, laidFrom, Writes, Lays}
+use Rattle.sheet_writer.specs.Writer.{handed, misstated, isMisstated, writeRefusal, laidFrom, Writes, Lays, LaysAgain}
 use Rattle.sheet_writer.specs.declared.Writing.{Writing}
 use Rattle.sheet_writer.specs.declared.Writing.the-variants as writing
 use Rattle.sheet_writer.proofs.Handed.{Stated, stated, decides-lengths, sheet-laid, length-laid}
@@ -54,7 +58,7 @@ all-stated rows size k end h l before e w =
 
 -- ---- what is laid
 
-pub header-bytes : (n : ℕ) → n ≤ 128
+pub header-bytes : (n : ℕ) → n ≤ 255
     → 1 ∷ 0 ∷ n ∷ 0 ∷ 12 ∷ 0 ∷ 0 ∷ 0 ∷ (12 + 8 * n) % 256 ∷ (12 + 8 * n) / 256 ∷ 0 ∷ 0 ∷ [] ≡ headerFor n
 unfolding headerFor bytesOf
 header-bytes n h =
@@ -69,42 +73,95 @@ laid-step : (at : ℕ → Head) (k m : ℕ) → recordFor (at k) (lengthsTo at k
 unfolding laidFrom
 laid-step at k m = rw (add-one k)
 
-pub laid-start : (rows room : List ℕ) → overAt (12 + 8 * 0) (laidFrom (heads rows) 0 (length rows / 8 - 0)) room ≡ overAt 12 (laidFrom (heads rows) 0 (rowsIn rows)) room
-unfolding rowsIn
-laid-start rows room =
-    let all : length rows / 8 - 0 ≡ length rows / 8 = omega arith in
-    rw all
-
-pub laid-on : (rows room room′ w : List ℕ) (k offset : ℕ) {h : Head} → k < length rows / 8 → offset ≡ lengthsTo (heads rows) k → h ≡ heads rows k
-    → overAt (12 + 8 * k) (laidFrom (heads rows) k (length rows / 8 - k)) room ≡ w → room′ ≡ overAt (12 + 8 * k) (recordFor h offset) room
-    → overAt (12 + 8 * (k + 1)) (laidFrom (heads rows) (k + 1) (length rows / 8 - (k + 1))) room′ ≡ w
-laid-on rows room room′ w k offset {h} l e p inv laid =
-    let left : length rows / 8 - k ≡ suc (length rows / 8 - (k + 1)) = omega arith in
-    let one : recordFor h offset ≡ recordFor (heads rows k) (lengthsTo (heads rows) k) = rw (p, e) in
-    let place : 12 + 8 * k + length (recordFor h offset) ≡ 12 + 8 * (k + 1) = omega (arith, length-record h offset) in
-    ap (λ (d : List ℕ). overAt (12 + 8 * (k + 1)) (laidFrom (heads rows) (k + 1) (length rows / 8 - (k + 1))) d) laid
-    ∙ (ap (λ (i : ℕ). overAt i (laidFrom (heads rows) (k + 1) (length rows / 8 - (k + 1))) (overAt (12 + 8 * k) (recordFor h offset) room)) (sym place)
-    ∙ (overAt-append (12 + 8 * k) (recordFor h offset) (laidFrom (heads rows) (k + 1) (length rows / 8 - (k + 1))) room
-    ∙ (ap (λ (r : List ℕ). overAt (12 + 8 * k) (r ++ laidFrom (heads rows) (k + 1) (length rows / 8 - (k + 1))) room) one
-    ∙ (ap (λ (r : List ℕ). overAt (12 + 8 * k) r room) (laid-step (heads rows) k (length rows / 8 - (k + 1))) ∙ (rw left at inv)))))
-
 none-laid : (at : ℕ → Head) (k : ℕ) → laidFrom at k 0 ≡ []
 unfolding laidFrom
 none-laid at k = refl
 
-length-laid-from : (at : ℕ → Head) (k n : ℕ) → length (laidFrom at k n) ≡ 8 * n
+-- the records that are still to be laid, of n, give the result
+pub again-start : (at : ℕ → Head) (n : ℕ) (room : List ℕ) → overAt (12 + 8 * 0) (laidFrom at 0 (n - 0)) room ≡ overAt 12 (laidFrom at 0 n) room
+again-start at n room =
+    let all : n - 0 ≡ n = omega arith in
+    rw all
+
+pub laid-on : (at : ℕ → Head) (n k offset : ℕ) (room room′ w : List ℕ) {h : Head} → k < n → offset ≡ lengthsTo at k → h ≡ at k
+    → overAt (12 + 8 * k) (laidFrom at k (n - k)) room ≡ w → room′ ≡ overAt (12 + 8 * k) (recordFor h offset) room
+    → overAt (12 + 8 * (k + 1)) (laidFrom at (k + 1) (n - (k + 1))) room′ ≡ w
+laid-on at n k offset room room′ w {h} l e p inv laid =
+    let left : n - k ≡ suc (n - (k + 1)) = omega arith in
+    let one : recordFor h offset ≡ recordFor (at k) (lengthsTo at k) = rw (p, e) in
+    let place : 12 + 8 * k + length (recordFor h offset) ≡ 12 + 8 * (k + 1) = omega (arith, length-record h offset) in
+    ap (λ (d : List ℕ). overAt (12 + 8 * (k + 1)) (laidFrom at (k + 1) (n - (k + 1))) d) laid
+    ∙ (ap (λ (i : ℕ). overAt i (laidFrom at (k + 1) (n - (k + 1))) (overAt (12 + 8 * k) (recordFor h offset) room)) (sym place)
+    ∙ (overAt-append (12 + 8 * k) (recordFor h offset) (laidFrom at (k + 1) (n - (k + 1))) room
+    ∙ (ap (λ (r : List ℕ). overAt (12 + 8 * k) (r ++ laidFrom at (k + 1) (n - (k + 1))) room) one
+    ∙ (ap (λ (r : List ℕ). overAt (12 + 8 * k) r room) (laid-step at k (n - (k + 1))) ∙ (rw left at inv)))))
+
+pub laid-all : (at : ℕ → Head) (n k : ℕ) (room w : List ℕ) → n ≤ k → overAt (12 + 8 * k) (laidFrom at k (n - k)) room ≡ w → room ≡ w
+laid-all at n k room w h inv =
+    let none : n - k ≡ 0 = omega arith in
+    sym (overAt-none (12 + 8 * k) room) ∙ (rw (none, none-laid at k) at inv)
+
+pub laid-start : (rows room : List ℕ) → overAt (12 + 8 * 0) (laidFrom (heads rows) 0 (length rows / 8 - 0)) room ≡ overAt 12 (laidFrom (heads rows) 0 (rowsIn rows)) room
+unfolding rowsIn
+laid-start rows room = again-start (heads rows) (length rows / 8) room
+
+pub length-laid-from : (at : ℕ → Head) (k n : ℕ) → length (laidFrom at k n) ≡ 8 * n
 unfolding laidFrom
 length-laid-from at k zero = refl
 length-laid-from at k (suc n) =
     let ih : length (laidFrom at (suc k) n) ≡ 8 * n = length-laid-from at (suc k) n in
     omega (arith, length-append (recordFor (at k) (lengthsTo at k)) (laidFrom at (suc k) n), length-record (at k) (lengthsTo at k), ih)
 
-pub laid-all : (rows room w : List ℕ) (k : ℕ) → length rows / 8 ≤ k → overAt (12 + 8 * k) (laidFrom (heads rows) k (length rows / 8 - k)) room ≡ w → room ≡ w
-laid-all rows room w k h inv =
-    let none : length rows / 8 - k ≡ 0 = omega arith in
-    sym (overAt-none (12 + 8 * k) room) ∙ (rw (none, none-laid (heads rows) k) at inv)
+-- ---- what is laid again, where the rows stand already
 
--- header, records and values, one behind the other, are the sheet
+-- the rows of a room, and the head of one of them, by what stands behind those before it
+pub rows-again : (room : List ℕ) (n : ℕ) → 12 + 8 * n ≤ length room → (length (take (8 * n) (drop 12 room)) ≡ 8 * n) × (length (take (8 * n) (drop 12 room)) / 8 ≡ n)
+rows-again room n h =
+    let long : length (take (8 * n) (drop 12 room)) ≡ 8 * n = length-take-le (8 * n) (drop 12 room) (omega (arith, length-drop 12 room, h)) in
+    (long, omega (arith, long))
+
+pub head-again : (before room : List ℕ) (n k : ℕ) {h : Head} → 12 + 8 * n ≤ length before → length room ≡ length before → k < n
+    → drop (12 + 8 * k) room ≡ drop (12 + 8 * k) before → h ≡ heads (take (12 + 8 * n - 12) (drop 12 room)) k → h ≡ heads (take (8 * n) (drop 12 before)) k
+unfolding rowsIn
+head-again before room n k h long l same is =
+    let e : 12 + 8 * n - 12 ≡ 8 * n = omega arith in
+    is ∙ (ap (λ (i : ℕ). heads (take i (drop 12 room)) k) e ∙ (from room (omega (arith, h, long)) ∙ (ap (λ (x : List ℕ). headOf (take (8 * n - 8 * k) x)) same ∙ sym (from before h))))
+  where
+    from : (x : List ℕ) → 12 + 8 * n ≤ length x → heads (take (8 * n) (drop 12 x)) k ≡ headOf (take (8 * n - 8 * k) (drop (12 + 8 * k) x))
+    from x w =
+        heads-at (take (8 * n) (drop 12 x)) k (let t = rows-again x n w .1 in omega (arith, t, l))
+        ∙ ap headOf (drop-take (8 * k) (8 * n) (drop 12 x) (omega (arith, l)) ∙ ap (take (8 * n - 8 * k)) (drop-drop (8 * k) 12 x))
+
+pub bytes-again : (room : List ℕ) (n : ℕ) → Bytes room → Bytes (take (8 * n) (drop 12 room))
+bytes-again room n b = bytes-take (8 * n) (drop 12 room) (bytes-drop 12 room b)
+
+-- what stands behind a record that was laid stays
+pub behind-again : (before room room′ : List ℕ) (k offset : ℕ) (h : Head) → drop (12 + 8 * k) room ≡ drop (12 + 8 * k) before
+    → room′ ≡ overAt (12 + 8 * k) (recordFor h offset) room → drop (12 + 8 * (k + 1)) room′ ≡ drop (12 + 8 * (k + 1)) before
+behind-again before room room′ k offset h same laid =
+    ap (drop (12 + 8 * (k + 1))) laid
+    ∙ (drop-past (12 + 8 * (k + 1)) (12 + 8 * k) (recordFor h offset) room (omega (arith, length-record h offset))
+    ∙ (further room ∙ (ap (drop 8) same ∙ sym (further before))))
+  where
+    further : (x : List ℕ) → drop (12 + 8 * (k + 1)) x ≡ drop 8 (drop (12 + 8 * k) x)
+    further x = let e : 12 + 8 * (k + 1) ≡ 12 + 8 * k + 8 = omega arith in ap (λ (i : ℕ). drop i x) e ∙ sym (drop-drop 8 (12 + 8 * k) x)
+
+-- header ahead of the records: the contract of `lay_again`
+pub again-short : (n : ℕ) (room : List ℕ) → length room < 12 + 8 * n → LaysAgain n room room
+again-short n room h = rw (lt-ltb (length room) (12 + 8 * n) h) refl
+
+pub again-laid : (n : ℕ) (room one two : List ℕ) → 12 + 8 * n ≤ length room → one ≡ overAt 12 (laidFrom (heads (take (8 * n) (drop 12 room))) 0 n) room
+    → two ≡ overAt 0 (headerFor n) one → LaysAgain n room two
+again-laid n room one two h a b =
+    let laid = laidFrom (heads (take (8 * n) (drop 12 room))) 0 n in
+    let place : 12 ≡ 0 + length (headerFor n) = omega (arith, length-header n) in
+    rw (le-ltb (length room) (12 + 8 * n) h)
+    (b
+    ∙ (ap (overAt 0 (headerFor n)) (a ∙ ap (λ (i : ℕ). overAt i laid room) place)
+    ∙ (overAt-ahead 0 (headerFor n) laid room ∙ overAt-zero (headerFor n ++ laid) room)))
+
+-- ---- header, records and values, one behind the other, are the sheet
+
 sheet-laid-over : (rows values room one two three : List ℕ) → Stated rows values → one ≡ overAt 0 (headerFor (rowsIn rows)) room
     → two ≡ overAt 12 (laidFrom (heads rows) 0 (rowsIn rows)) one → three ≡ overAt (12 + 8 * rowsIn rows) values two
     → three ≡ over (sheetOf (handed rows values)) room
@@ -118,7 +175,7 @@ sheet-laid-over rows values room one two three s a b c =
     c ∙ (ap (overAt (12 + 8 * rowsIn rows) values) first
     ∙ (ap (λ (i : ℕ). overAt i values (overAt 0 (header ++ laid) room)) (sym place)
     ∙ (overAt-append 0 (header ++ laid) values room
-    ∙ (overAt-zero (header ++ laid ++ values) room ∙ ap (λ (l : List ℕ). over l room) (append-assoc header laid values ∙ sym (sheet-laid rows values s))))))
+    ∙ (overAt-zero (header ++ laid ++ values) room ∙ ap (λ (l : List ℕ). over l room) (append-assoc header laid values ∙ sym (sheet-laid rows values (s .all)))))))
   where
     after-header : (n : ℕ) → 0 + length (headerFor n) ≡ 12
     after-header n = omega (arith, length-header n)
@@ -138,14 +195,14 @@ pub lay-narrow : (rows values room : List ℕ) (size : ℕ) → Stated rows valu
     → Lays (sheetOf (handed rows values)) room (writing.Refused NoRoom) room
 unfolding rowsIn
 lay-narrow rows values room size s e h =
-    let long : length (sheetOf (handed rows values)) ≡ size = length-laid rows values s ∙ sym e in
+    let long : length (sheetOf (handed rows values)) ≡ size = length-laid rows values (s .all) ∙ sym e in
     rw (long, lt-ltb (length room) size h) (refl, refl)
 
 pub lay-done : (rows values room room′ : List ℕ) (size : ℕ) → Stated rows values → size ≡ 12 + 8 * (length rows / 8) + length values → size ≤ length room
     → room′ ≡ over (sheetOf (handed rows values)) room → Lays (sheetOf (handed rows values)) room (writing.Written size) room′
 unfolding rowsIn
 lay-done rows values room room′ size s e h laid =
-    let long : length (sheetOf (handed rows values)) ≡ size = length-laid rows values s ∙ sym e in
+    let long : length (sheetOf (handed rows values)) ≡ size = length-laid rows values (s .all) ∙ sym e in
     rw (long, le-ltb (length room) size h) (refl, laid)
 
 -- ---- the whole call, row by row

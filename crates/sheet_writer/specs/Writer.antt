@@ -1,19 +1,20 @@
 -- Writing a settings sheet: how settings are handed over, when they are refused, and the bytes of the lent buffer.
 -- Assumes nothing.
 use mathlib.Core.Path.{_≡_}
-use mathlib.Core.Bool.{Bool, not, _||_}
+use mathlib.Core.Bool.{Bool, cond, not, _||_}
 use mathlib.Core.List.{List, [], _∷_, _++_}
 use mathlib.Core.Logic.{_⊎_, _≢_}
 use mathlib.Core.Option.{Option, some, none}
-use Prim.Native.Nat.{ℕ, zero, suc, _*_, _<_}
+use Prim.Native.Nat.{ℕ, zero, suc, _+_, _*_, _<_}
 use lib.Dec.{eqb, ltb}
-use lib.ListN.{length}
+use lib.ListN.{length, take, drop}
 use Rattle.rows.specs.Rows.{Row, row, Test, test, firstOf}
 use Rattle.setting.specs.declared.Head.{Head}
 use Rattle.setting.specs.Setting.{Setting, lengthOf, lengthsTo, Some, Falls, Unfit, rowsIn, heads, tails, settingsIn, falls, unfit, someOf, faultNumber}
 use Rattle.setting.specs.declared.Fault.{Fault}
 use Rattle.setting.specs.declared.Fault.the-variants.{OutOfOrder, NotAllowed, NoRoom, TooMany}
-use Rattle.sheet.specs.Sheet.{recordFor, sheetOf, roomAfter}
+use Rattle.lent.specs.Lent.{over}
+use Rattle.sheet.specs.Sheet.{headerFor, recordFor, sheetOf, roomAfter}
 use Rattle.sheet_writer.specs.declared.Writing.{Writing}
 use Rattle.sheet_writer.specs.declared.Writing.the-variants as writing
 
@@ -115,3 +116,9 @@ laidFrom at k (suc n) = recordFor (at k) (lengthsTo at k) ++ laidFrom at (suc k)
 abbrev pub Lays : List ℕ → List ℕ → Writing → List ℕ → Type 0
 Lays sheet room r room′ =
     (r ≡ writeAnswer (firstOf (roomTests sheet room)) (length sheet)) × (room′ ≡ roomAfter (firstOf (roomTests sheet room)) sheet room)
+
+-- the contract of `lay_again`: header and records of a sheet, from n rows that stand where its records belong
+abbrev pub LaysAgain : ℕ → List ℕ → List ℕ → Type 0
+LaysAgain n room room′ =
+    room′
+    ≡ cond (ltb (length room) (12 + 8 * n)) room (over (headerFor n ++ laidFrom (heads (take (8 * n) (drop 12 room))) 0 n) room)

@@ -7,12 +7,12 @@ use setting::ROW;
 use sheet::HEADER;
 ghost use mathlib.Core.Path.{_≡_};
 ghost use mathlib.Core.Bool.{false};
-ghost use Prim.Native.Nat.{_/_, _≤_};
-ghost use lib.ListN.{length};
+ghost use Prim.Native.Nat.{_+_, _*_, _/_, _≤_};
+ghost use lib.ListN.{length, take, drop};
 ghost use Rattle.lent.specs.Lent.{overAt};
 ghost use Rattle.setting.specs.Setting.{rowsIn, heads};
 ghost use Rattle.sheet.specs.Sheet.{headerFor, recordFor, sheetOf};
-ghost use Rattle.sheet_writer.specs.Writer.{Writes, Lays, handed, isMisstated, laidFrom};
+ghost use Rattle.sheet_writer.specs.Writer.{Writes, Lays, LaysAgain, handed, isMisstated, laidFrom};
 
 // How long the sheet is that was written.
 pub enum Writing {
@@ -84,7 +84,7 @@ fn lay(rows: &[u8], values: &[u8], room: &mut [u8]) -> Writing
 
 // Lays the header of a sheet with n records.
 fn lay_header(n: usize, room: &mut [u8])
-    requires { ⌜ n ≤ 128 ⌝ }
+    requires { ⌜ n ≤ 255 ⌝ }
     ensures { λ _. ⌜ now (room .exit) ≡ overAt 0 (headerFor n) (now (room .entry)) ⌝ }
 {
     let end = HEADER + ROW * n;
@@ -131,4 +131,33 @@ fn lay_record(head: Head, offset: usize, room: &mut [u8], at: usize)
         room,
         at,
     );
+}
+
+// Lays the header of a sheet with n records, and each record with the offset that its value has, where
+// the rows stand already and their values behind them. A room that is too short for them stays.
+pub fn lay_again(n: u8, room: &mut [u8])
+    ensures { λ _. ⌜ LaysAgain n (now (room .entry)) (now (room .exit)) ⌝ }
+{
+    let many = n as usize;
+    if room.len() < HEADER + ROW * many {
+        return;
+    }
+    lay_offsets(many, room);
+    lay_header(many, room);
+}
+
+// Lays each of n records again, with the lengths of the values before it as its value's offset.
+fn lay_offsets(n: usize, room: &mut [u8])
+    requires { ⌜ (n ≤ 255) × (12 + 8 * n ≤ length (now room)) ⌝ }
+    ensures { λ _. ⌜ now (room .exit) ≡ overAt 12 (laidFrom (heads (take (8 * n) (drop 12 (now (room .entry))))) 0 n) (now (room .entry)) ⌝ }
+{
+    let end = HEADER + ROW * n;
+    let mut offset = 0;
+    let mut k = 0;
+    while k < n {
+        let head = setting::head_at(&room[HEADER..end], k);
+        lay_record(head, offset, room, HEADER + ROW * k);
+        offset += setting::measure(head);
+        k += 1;
+    }
 }

@@ -63,14 +63,14 @@ loop-again c =
       end-on _ _ _ _ (inv .1) (head .ensures) (c .measure .ensures),
       end-room _ _ _ _ (λ i. b .given i .fits) (inv .2) (head .ensures) (c .measure .ensures),
       ap length (laid .ensures) ∙ (length-overAt _ _ _ ∙ inv .3),
-      laid-on _ _ _ _ _ _ (turn .loop-test .taken) (inv .1) (head .ensures) (inv .4) (laid .ensures),
+      laid-on _ _ _ _ _ _ _ (turn .loop-test .taken) (inv .1) (head .ensures) (inv .4) (laid .ensures),
     )
 
 same-length : tie.Need-same-length Inv-loop μ-loop
 same-length c = search needs
 
 returns : tie.Need-returns Inv-loop μ-loop
-returns c = laid-all _ _ _ _ (c .loop-test .left) (c .before .loop .inv .4)
+returns c = laid-all _ _ _ _ _ (c .loop-test .left) (c .before .loop .inv .4)
 
 pub lay-records-spec : {M : Type 1} → statement M
 lay-records-spec =
