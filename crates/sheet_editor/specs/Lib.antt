@@ -1,0 +1,2 @@
+pub mod Editor
+pub mod Promised
