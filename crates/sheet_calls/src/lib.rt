@@ -1,8 +1,10 @@
-// The calls `sheet.write`, `sheet.check` and `sheet.read`. A part of the test tool `rehearsal`.
+// The calls `sheet.write`, `sheet.check`, `sheet.read`, `sheet.rem`, `sheet.remmod` and `sheet.add`.
+// A part of the test tool `rehearsal`.
 use setting::Head;
 use setting::ROW;
 use sheet::Checked;
 use sheet::Reading;
+use sheet_editor::Editing;
 use sheet_writer::Writing;
 use words::Words;
 use words::byte;
@@ -21,6 +23,15 @@ pub fn answer(w: Words, line: &[u8], out: &mut [u8]) -> usize {
     }
     if words::is(w, line, b"sheet.read") {
         return read(w, line, out);
+    }
+    if words::is(w, line, b"sheet.rem") {
+        return remove(w, line, out);
+    }
+    if words::is(w, line, b"sheet.remmod") {
+        return remove_module(w, line, out);
+    }
+    if words::is(w, line, b"sheet.add") {
+        return add(w, line, out);
     }
     answers::bad_line(out)
 }
@@ -208,4 +219,74 @@ fn was_read(answer: Reading, out: &mut [u8]) -> usize {
             )
         }
     }
+}
+
+// sheet.rem BUF LENGTH INDEX MODULE REG: by the index; the module and the register only parse.
+fn remove(w: Words, line: &[u8], out: &mut [u8]) -> usize {
+    let mut room = [0u8; words::MOST];
+    let p = words::bytes(w, line, &mut room);
+    let a = words::number(p, line, 18446744073709551615);
+    let b = words::number(a, line, 18446744073709551615);
+    let c = words::number(words::number(b, line, 255), line, 255);
+    if words::done(c, line) {
+        let n = count(p.value, &room);
+        return remove_now(&mut room[..n], a.value as usize, b.value as usize, out);
+    }
+    answers::bad_line(out)
+}
+
+fn remove_now(room: &mut [u8], size: usize, index: usize, out: &mut [u8]) -> usize {
+    let at = edited(sheet_editor::remove(room, size, index), out);
+    answers::buffer(out, at, room)
+}
+
+fn edited(answer: Editing, out: &mut [u8]) -> usize {
+    match answer {
+        Editing::Refused(fault) => answers::refused(out, sheet_editor::number(fault)),
+        Editing::Edited(n) => answers::form(out, b"ok n=#", &[n as u64]),
+    }
+}
+
+// sheet.remmod BUF LENGTH MODULE
+fn remove_module(w: Words, line: &[u8], out: &mut [u8]) -> usize {
+    let mut room = [0u8; words::MOST];
+    let p = words::bytes(w, line, &mut room);
+    let a = words::number(p, line, 18446744073709551615);
+    let b = words::number(a, line, 255);
+    if words::done(b, line) {
+        let n = count(p.value, &room);
+        return remove_module_now(&mut room[..n], a.value as usize, byte(b.value), out);
+    }
+    answers::bad_line(out)
+}
+
+fn remove_module_now(room: &mut [u8], size: usize, unit: u8, out: &mut [u8]) -> usize {
+    let at = edited(sheet_editor::remove_module(room, size, unit), out);
+    answers::buffer(out, at, room)
+}
+
+// sheet.add BUF LENGTH SETTING
+fn add(w: Words, line: &[u8], out: &mut [u8]) -> usize {
+    let mut room = [0u8; words::MOST];
+    let p = words::bytes(w, line, &mut room);
+    let a = words::number(p, line, 18446744073709551615);
+    let b = words::word(a, line);
+    let n = count(p.value, &room);
+    add_setting(b, line, &mut room[..n], a.value as usize, out)
+}
+
+// Takes the setting that the word last taken names.
+fn add_setting(w: Words, line: &[u8], room: &mut [u8], size: usize, out: &mut [u8]) -> usize {
+    let mut value = [0u8; words::MOST];
+    let setting = parse(words::taken(w, line), &mut value);
+    if setting.good && words::done(w, line) {
+        let n = count(setting.size, &value);
+        return add_now(room, size, setting.head, &value[..n], out);
+    }
+    answers::bad_line(out)
+}
+
+fn add_now(room: &mut [u8], size: usize, head: Head, value: &[u8], out: &mut [u8]) -> usize {
+    let at = edited(sheet_editor::add(room, size, head, value), out);
+    answers::buffer(out, at, room)
 }
