@@ -4,6 +4,7 @@
 use crate::bench::{Bench, Register};
 use crate::catalogue;
 use crate::desk::{Closed, Closing, Desk, Opened, Request, Ticket};
+use crate::edits;
 use crate::lanes::Lanes;
 use crate::receiver::{Fed, Receiver};
 use crate::remainder::remainder;
@@ -57,6 +58,9 @@ enum Call {
     SheetWrite { settings: Vec<Setting>, buf: Vec<u8> },
     SheetCheck { sheet: Vec<u8> },
     SheetRead { sheet: Vec<u8>, index: u64, buf: Vec<u8> },
+    SheetRem { buf: Vec<u8>, length: u64, index: u64 },
+    SheetRemmod { buf: Vec<u8>, length: u64, module: u8 },
+    SheetAdd { buf: Vec<u8>, length: u64, setting: Setting },
 }
 
 /// A call that needs a bench.
@@ -110,7 +114,7 @@ impl<'a> Words<'a> {
         u32::try_from(decimal(self.word()?)?).ok()
     }
 
-    /// The next word as a 64-bit number: an element's or a record's, or a place in a capture or a lane.
+    /// The next word as a 64-bit number: an element's or a record's, a place in a capture or a lane, or a length.
     fn long_number(&mut self) -> Option<u64> {
         u64::try_from(decimal(self.word()?)?).ok()
     }
@@ -233,6 +237,14 @@ fn parse_call(name: &[u8], words: &mut Words) -> Option<Call> {
         b"sheet.write" => Call::SheetWrite { settings: parse_settings(words.word()?)?, buf: words.bytes()? },
         b"sheet.check" => Call::SheetCheck { sheet: words.bytes()? },
         b"sheet.read" => Call::SheetRead { sheet: words.bytes()?, index: words.long_number()?, buf: words.bytes()? },
+        b"sheet.rem" => parse_removal(words)?,
+        b"sheet.remmod" => {
+            Call::SheetRemmod { buf: words.bytes()?, length: words.long_number()?, module: words.byte()? }
+        }
+        b"sheet.add" => {
+            let (buf, length) = (words.bytes()?, words.long_number()?);
+            Call::SheetAdd { buf, length, setting: parse_setting(words.word()?)? }
+        }
         _ => return None,
     })
 }
@@ -267,6 +279,15 @@ fn parse_tally(words: &mut Words) -> Option<Tally> {
     Some(Tally { read: words.number()?, refused: words.number()?, dropped: words.number()? })
 }
 
+/// BUF LENGTH INDEX MODULE REG of a removal. Module and register name the same record as the index, so it goes by the
+/// index; they must be bytes all the same.
+fn parse_removal(words: &mut Words) -> Option<Call> {
+    let (buf, length, index) = (words.bytes()?, words.long_number()?, words.long_number()?);
+    words.byte()?;
+    words.byte()?;
+    Some(Call::SheetRem { buf, length, index })
+}
+
 /// SETTINGS, `-` for none: up to 200 of them, parted by semicolons.
 pub fn parse_settings(word: &[u8]) -> Option<Vec<Setting>> {
     if word == b"-" {
@@ -280,7 +301,7 @@ pub fn parse_settings(word: &[u8]) -> Option<Vec<Setting>> {
 }
 
 /// MODULE:REG:KIND:COUNT:HEX of one setting.
-fn parse_setting(named: &[u8]) -> Option<Setting> {
+pub fn parse_setting(named: &[u8]) -> Option<Setting> {
     let mut words = Words(named.split(|byte| *byte == b':').collect::<Vec<&[u8]>>().into_iter());
     let head = Head { module: words.byte()?, register: words.byte()?, kind: words.byte()?, count: words.byte()? };
     let value = words.bytes()?;
@@ -374,6 +395,9 @@ impl Rehearsal {
             Call::SheetRead { sheet, index, buf } => {
                 lent(buf, |room| sheet::read(&sheet, index, room).map(setting_fields))
             }
+            Call::SheetRem { buf, length, index } => edited(buf, |buf| edits::remove(buf, length, index)),
+            Call::SheetRemmod { buf, length, module } => edited(buf, |buf| edits::remove_module(buf, length, module)),
+            Call::SheetAdd { buf, length, setting } => edited(buf, |buf| edits::add(buf, length, setting)),
         }
     }
 
@@ -520,6 +544,12 @@ fn lent<R: Into<Refusal>>(
         buf[..bytes.len()].copy_from_slice(bytes);
     }
     format!("{} buf={}", plain(result.map(|(fields, _)| fields)), hex(&buf))
+}
+
+/// The same for a call on the sheet in a lent buffer, whose new sheet goes to the first bytes.
+fn edited(buf: Vec<u8>, call: impl FnOnce(&[u8]) -> Result<Vec<u8>, No>) -> String {
+    let result = call(&buf).map(length_field);
+    lent(buf, |_| result)
 }
 
 /// The lines of a chunk, parted by semicolons; a refusal also tells how many bytes were taken before it.

@@ -3,6 +3,7 @@
 use crate::altered::Altered;
 use crate::calls::lines;
 use crate::dues::Dues;
+use crate::edited::Edited;
 use crate::filters::Filters;
 use crate::folders::Folders;
 use crate::looks::Looks;
@@ -17,7 +18,7 @@ use crate::turns::Turns;
 use std::collections::BTreeMap;
 
 /// Each call with the numbers its order lists.
-const ORDERS: [(&str, &[No]); 42] = [
+const ORDERS: [(&str, &[No]); 45] = [
     ("rem", &[]),
     ("read", &[1, 2, 3, 4, 5, 6, 7, 8, 9]),
     ("write", &[5, 8, 9, 6]),
@@ -60,11 +61,14 @@ const ORDERS: [(&str, &[No]); 42] = [
     ("sheet.write", &[79, 68, 69, 57]),
     ("sheet.check", &[65, 66, 67, 68, 69, 70]),
     ("sheet.read", &[65, 66, 67, 68, 69, 70, 56, 57]),
+    ("sheet.rem", &[80, 65, 66, 67, 68, 69, 70, 77]),
+    ("sheet.remmod", &[80, 65, 66, 67, 68, 69, 70, 77]),
+    ("sheet.add", &[80, 65, 66, 67, 68, 69, 70, 78, 79]),
 ];
 /// The lines that must also have been said of frames which lie in more than one chunk.
 const OVER_BORDERS: [&str; 4] = ["ok", "refused 5", "dropped", "open"];
 /// What is told of each subject, from a script's calls and answers.
-const SUBJECTS: [fn(&[&[u8]], &[&[u8]]) -> (String, Vec<String>); 11] = [
+const SUBJECTS: [fn(&[&[u8]], &[&[u8]]) -> (String, Vec<String>); 12] = [
     Rests::report,
     Filters::report,
     Places::report,
@@ -76,6 +80,7 @@ const SUBJECTS: [fn(&[&[u8]], &[&[u8]]) -> (String, Vec<String>); 11] = [
     Altered::report,
     Scans::report,
     Tallies::report,
+    Edited::report,
 ];
 /// Stands for a line that begins with the name of no call.
 const NO_CALL: &str = "(no call)";

@@ -11,6 +11,8 @@ mod count;
 mod cuts;
 mod desk;
 mod dues;
+mod edited;
+mod edits;
 mod expiries;
 mod fair;
 mod faults;

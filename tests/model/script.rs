@@ -2,6 +2,7 @@
 
 mod bench_walk;
 mod desk_walk;
+mod edit_walk;
 mod expall_walk;
 mod folder_walk;
 mod lane_walk;
@@ -155,6 +156,23 @@ const SCAN_ROUND: [Section; 5] =
 const TALLY_ROUND: [Section; 5] =
     [rough::tally_lines, tally_walk::near_full, tally_walk::last_places, tally_walk::no_line, tally_walk::anew];
 
+/// The sections on settings thrown out of a sheet and added to it, after those on the tally, with a generator of their
+/// own as well.
+const EDIT_ROUND: [Section; 12] = [
+    rough::edit_lines,
+    edit_walk::removals,
+    edit_walk::modules,
+    edit_walk::additions,
+    edit_walk::not_allowed,
+    edit_walk::keys_there,
+    edit_walk::full_sheets,
+    edit_walk::unaddable,
+    edit_walk::wrong_sheets,
+    edit_walk::stated,
+    edit_walk::freed,
+    edit_walk::to_and_fro,
+];
+
 /// A rehearsal with a desk of any sort, to try the call on that expires everything due; a scan is out there in half of
 /// the cases.
 pub fn crowded(seed: u64) -> Rehearsal {
@@ -191,6 +209,7 @@ pub fn write(seed: u64, calls: usize) -> Vec<u8> {
     scan_walk::no_scan_yet(&mut script);
     rough::longest_lines(&mut script);
     sheet_walk::largest(&mut script);
+    edit_walk::largest(&mut script);
     let mut receiver_random = Random::new(!seed);
     let mut varia_random = Random::new(seed.rotate_left(32) ^ 0x5641_5249_4100);
     let mut place_random = Random::new(!seed.rotate_left(32) ^ 0x504C_4143_4500);
@@ -202,6 +221,7 @@ pub fn write(seed: u64, calls: usize) -> Vec<u8> {
     let mut noise_random = Random::new(seed.rotate_left(56) ^ 0x4E4F_4953_4500);
     let mut scan_random = Random::new(seed.rotate_left(4) ^ 0x5343_414E_0000);
     let mut tally_random = Random::new(seed.rotate_left(12) ^ 0x5441_4C4C_5900);
+    let mut edit_random = Random::new(seed.rotate_left(20) ^ 0x4544_4954_5300);
     while script.lines.len() < calls {
         script.round(ROUND);
         script.round_with(&mut receiver_random, RECEIVER_ROUND);
@@ -215,6 +235,7 @@ pub fn write(seed: u64, calls: usize) -> Vec<u8> {
         script.round_with(&mut noise_random, NOISE_ROUND);
         script.round_with(&mut scan_random, SCAN_ROUND);
         script.round_with(&mut tally_random, TALLY_ROUND);
+        script.round_with(&mut edit_random, EDIT_ROUND);
     }
     script.lines.truncate(calls);
     script.lines.iter().flat_map(|line| [line.as_slice(), b"\n"].concat()).collect()

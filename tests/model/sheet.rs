@@ -59,9 +59,16 @@ impl Head {
     }
 }
 
+impl Setting {
+    /// Whether the head is allowed, and the value of the length that it says.
+    pub fn is_allowed(&self) -> bool {
+        self.head.is_allowed() && self.head.length() == Some(self.value.len() as u128)
+    }
+}
+
 /// Refused with this number where its condition holds. The request's numbers do not all rise in the order it gives them
 /// in, so each is asked for in its turn.
-fn refuse(no: No, applies: bool) -> Result<(), No> {
+pub fn refuse(no: No, applies: bool) -> Result<(), No> {
     match applies {
         true => Err(no),
         false => Ok(()),
@@ -105,10 +112,9 @@ pub fn laid_out(settings: &[Setting]) -> Vec<u8> {
 /// next.
 pub fn write(settings: &[Setting], room: usize) -> Result<Vec<u8>, No> {
     let heads: Vec<Head> = settings.iter().map(|setting| setting.head).collect();
-    let fits = |setting: &Setting| setting.head.length() == Some(setting.value.len() as u128);
     refuse(79, settings.len() > MOST_SETTINGS)?;
     refuse(68, !rises(&heads))?;
-    refuse(69, !settings.iter().all(|setting| setting.head.is_allowed() && fits(setting)))?;
+    refuse(69, !settings.iter().all(Setting::is_allowed))?;
     let sheet = laid_out(settings);
     refuse(57, sheet.len() > room)?;
     Ok(sheet)

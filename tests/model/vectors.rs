@@ -1,5 +1,6 @@
 //! The model held against the facts the papers print.
 
+mod edits;
 mod shift;
 
 use crate::bench::Bench;
@@ -128,6 +129,19 @@ no 70
 ok module=15 reg=50 kind=1 count=2 n=2 buf=01020000
 ";
 
+/// The part of the same example that is about settings thrown out of a sheet and added to it.
+const EDIT_CALLS: &str = "\
+sheet.rem 010002000c0000001c0000000f300301000000000f3201020200000034120102ff 32 0 15 48
+sheet.remmod 010002000c0000001c0000000f300301000000000f3201020200000034120102ff 32 16
+sheet.add 010001000c000000140000000f300301000000003412ffffffffffffffffffffff 22 15:50:1:2:0102
+";
+
+const EDIT_ANSWERS: &str = "\
+ok n=22 buf=010001000c000000140000000f32010200000000010201020200000034120102ff
+no 77 buf=010002000c0000001c0000000f300301000000000f3201020200000034120102ff
+ok n=32 buf=010002000c0000001c0000000f300301000000000f3201020200000034120102ff
+";
+
 /// The part of the same example that is about the receiver, and what it has of the tally.
 const RECEIVER_CALLS: &str = "\
 rx.new 0
@@ -209,6 +223,9 @@ pub fn report() -> (String, bool) {
         sheets(),
         unwritten_sheets(),
         wrong_sheets(),
+        edits::removals(),
+        edits::additions(),
+        edits::unedited(),
     ]
     .into_iter()
     .flatten()
@@ -970,11 +987,14 @@ fn last_places() -> Vec<Check> {
     ]
 }
 
-/// All parts of the call scripts' later example in their order, but for what it has of requests that are still to come.
+/// All parts of the call scripts' later example in their order, and the one about changed sheets alone.
 fn later_example() -> Vec<Check> {
-    let asked = [DESK_CALLS, RECEIVER_CALLS, BOX_CALLS, SHEET_CALLS, LANE_CALLS, SCAN_CALLS];
-    let said = [DESK_ANSWERS, RECEIVER_ANSWERS, BOX_ANSWERS, SHEET_ANSWERS, LANE_ANSWERS, SCAN_ANSWERS];
-    vec![calls("the call scripts' later example", &asked.concat(), &said.concat())]
+    let asked = [DESK_CALLS, RECEIVER_CALLS, BOX_CALLS, SHEET_CALLS, EDIT_CALLS, LANE_CALLS, SCAN_CALLS];
+    let said = [DESK_ANSWERS, RECEIVER_ANSWERS, BOX_ANSWERS, SHEET_ANSWERS, EDIT_ANSWERS, LANE_ANSWERS, SCAN_ANSWERS];
+    vec![
+        calls("the call scripts' later example", &asked.concat(), &said.concat()),
+        calls("the call scripts' example of changed sheets", EDIT_CALLS, EDIT_ANSWERS),
+    ]
 }
 
 /// The sheets' part of the call scripts' example, the empty sheet, both sides of the most settings and of the most

@@ -4,46 +4,9 @@ or judges one. Only right sheets are put together, and a wrong one is such a she
 here as well."""
 import itertools
 
-from wire import bad, lent, printed, say, script
+from wire import LINE, SIZES, WRAP, bad, changed, laid, lent, little, named, printed, say, script, text
 
 LARGEST = 2**64 - 1
-WRAP = 2**32
-LINE = 65536  # bytes: no call line has more
-SIZES = {1: 1, 2: 1, 3: 2, 4: 2, 5: 4, 6: 4, 7: 8}
-
-
-def text(data):
-    return data.hex() or "-"
-
-
-def little(number, width=4):
-    return number.to_bytes(width, "little")
-
-
-# ---- settings (module, register, kind, count, value) and the sheet of them
-
-
-def laid(settings):
-    """The sheet of these settings as they stand."""
-    records = values = b""
-    for *head, value in settings:
-        records += bytes(head) + little(len(values))
-        values += value
-    return little(1, 2) + little(len(settings), 2) + little(12) + little(12 + 8 * len(settings)) + records + values
-
-
-def changed(sheet, *changes):
-    """The sheet with other bytes at these places, none of which moves another."""
-    for place, data in changes:
-        data = bytes.fromhex(data) if isinstance(data, str) else data
-        assert sheet[place:place + len(data)] != data and place + len(data) <= len(sheet)
-        sheet = sheet[:place] + data + sheet[place + len(data):]
-    return sheet
-
-
-def named(settings):
-    return ";".join(":".join(map(str, head)) + ":" + text(value) for *head, value in settings) or "-"
-
 
 # ---- the calls
 

@@ -1,6 +1,7 @@
-"""What the scripts beside it share: the bytes of telegrams, worked out by long division, call lines with the words of
-their answers, and how many addresses an opening considers. Nothing here follows a desk, a box or lanes: a script says
-itself which address is given, and the turn stands behind that one, and which folder a ticket has, 0 for none."""
+"""What the scripts beside it share: the bytes of telegrams, worked out by long division, those of settings sheets, call
+lines with the words of their answers, and how many addresses an opening considers. Nothing here follows a desk, a box or
+lanes: a script says itself which address is given, and the turn stands behind that one, and which folder a ticket has, 0
+for none. Nothing here reads or judges a sheet."""
 import itertools
 import re
 import sys
@@ -319,3 +320,39 @@ def lanes(last, held={}):
         for lane in held
     }
     say("lane.dump", f"ok last={last} lanes=" + "|".join(each.get(lane, "-") for lane in range(1, 17)))
+
+
+# ---- settings (module, register, kind, count, value) and the sheet of them
+
+LINE = 65536  # bytes: no call line has more
+SIZES = {1: 1, 2: 1, 3: 2, 4: 2, 5: 4, 6: 4, 7: 8}
+
+
+def text(data):
+    return data.hex() or "-"
+
+
+def little(number, width=4):
+    return number.to_bytes(width, "little")
+
+
+def laid(settings):
+    """The sheet of these settings as they stand."""
+    records = values = b""
+    for *head, value in settings:
+        records += bytes(head) + little(len(values))
+        values += value
+    return little(1, 2) + little(len(settings), 2) + little(12) + little(12 + 8 * len(settings)) + records + values
+
+
+def changed(sheet, *changes):
+    """The sheet with other bytes at these places, none of which moves another."""
+    for place, data in changes:
+        data = bytes.fromhex(data) if isinstance(data, str) else data
+        assert sheet[place:place + len(data)] != data and place + len(data) <= len(sheet)
+        sheet = sheet[:place] + data + sheet[place + len(data):]
+    return sheet
+
+
+def named(settings):
+    return ";".join(":".join(map(str, head)) + ":" + text(value) for *head, value in settings) or "-"

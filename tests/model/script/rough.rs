@@ -52,6 +52,14 @@ const SHEET_SAMPLES: [&str; 4] = [
     "sheet.read 010002000c0000001c0000000f300301000000000f3201020200000034120102 1 a1a2a3",
 ];
 
+/// The same of the calls that throw settings out of a sheet and add to it. The sheet of the first has no record, so that
+/// number, module and register name none, whatever is amiss with them.
+const EDIT_SAMPLES: [&str; 3] = [
+    "sheet.rem 010000000c0000000c000000a1a2a3 12 0 15 48",
+    "sheet.remmod 010002000c0000001c0000000f300301000000000f3201020200000034120102a1a2a3 32 15",
+    "sheet.add 010001000c000000140000000f300301000000003412a1a2a3a4a5a6a7a8a9aaab 22 15:50:1:2:0102",
+];
+
 /// The same of the call that expires everything due.
 const EXPALL_SAMPLES: [&str; 2] = ["desk.expall 109 3", "desk.expall 4294967295 0"];
 
@@ -211,6 +219,54 @@ const NO_SHEET_CALLS: [&str; 35] = [
     "sheet.read - -1 -",
     "sheet.read - 18446744073709551616 -",
     "Sheet.check -",
+];
+
+/// Lines that are no calls to throw settings out of a sheet or to add one, and numbers one past their type.
+const NO_EDIT_CALLS: [&str; 44] = [
+    "sheet.rem",
+    "sheet.rem -",
+    "sheet.rem - 0",
+    "sheet.rem - 0 0",
+    "sheet.rem - 0 0 15",
+    "sheet.rem - 0 0 15 ",
+    "sheet.rem - 0 0 15 48 0",
+    "sheet.rem - 0 0 15 48 ",
+    "sheet.rem 0 0 0 15 48",
+    "sheet.rem 0G 0 0 15 48",
+    "sheet.rem - - 0 15 48",
+    "sheet.rem - 0 - 15 48",
+    "sheet.rem - -1 0 15 48",
+    "sheet.rem - 0 -1 15 48",
+    "sheet.rem - 18446744073709551616 0 15 48",
+    "sheet.rem - 0 18446744073709551616 15 48",
+    "sheet.rem - 0 0 256 48",
+    "sheet.rem - 0 0 15 256",
+    "sheet.rem - 0 0 - -",
+    "sheet.rem - 0 15:48",
+    "sheet.remmod",
+    "sheet.remmod -",
+    "sheet.remmod - 0",
+    "sheet.remmod - 0 ",
+    "sheet.remmod - 0 256",
+    "sheet.remmod - 0 -1",
+    "sheet.remmod - 18446744073709551616 15",
+    "sheet.remmod - 0 15 48",
+    "sheet.remmod 0A 0 15",
+    "sheet.add",
+    "sheet.add -",
+    "sheet.add - 0",
+    "sheet.add - 0 -",
+    "sheet.add - 0 15:50:1:2",
+    "sheet.add - 0 15:50:1:2:",
+    "sheet.add - 0 15:50:1:2:010",
+    "sheet.add - 0 15:50:1:2:0102;",
+    "sheet.add - 0 15:50:1:2:0102;15:51:1:2:0102",
+    "sheet.add - 0 15:50:1:2:0102 0",
+    "sheet.add - 0 256:50:1:2:0102",
+    "sheet.add - 0 15:50:1:256:0102",
+    "sheet.add - 18446744073709551616 15:50:1:2:0102",
+    "sheet.add 15:50:1:2:0102 0 -",
+    "Sheet.add - 0 15:50:1:2:0102",
 ];
 
 /// Lines that are no calls to expire everything due, numbers one past their type, and rooms that would be 1 or 44 of a
@@ -500,6 +556,30 @@ pub fn sheet_lines(script: &mut Script) {
         script.call(format!("sheet.write {} a1a2", named.join(";")));
     }
     script.call(format!("sheet.write {} a1a2", vec!["1:0:1:1:a1"; MOST_SETTINGS + 1].join(";")));
+}
+
+/// The calls that throw settings out of a sheet and add to it with any words, then lines that are none of them, or
+/// nearly, and numbers with zeros before them.
+pub fn edit_lines(script: &mut Script) {
+    for _ in 0..6 {
+        let random = &mut script.random;
+        let (buf, length, index) = (any_bytes(random), random.bits() >> random.below(64), random.bits());
+        let (module, register, new) = (random.byte(), random.byte(), any_setting(random));
+        script.call(format!("sheet.rem {buf} {length} {index} {module} {register}"));
+        script.call(format!("sheet.remmod {buf} {length} {module}"));
+        script.call(format!("sheet.add {buf} {length} {new}"));
+    }
+    for sample in EDIT_SAMPLES.iter().cycle().take(3 * 8) {
+        let line = amiss(&mut script.random, sample);
+        script.call(line);
+    }
+    for line in NO_EDIT_CALLS {
+        script.call(line);
+    }
+    let one = "010001000c000000140000000f300301000000003412";
+    script.call(format!("sheet.rem {one} {:040} {:040} 0000000015 0000000048", 22, 0));
+    script.call(format!("sheet.remmod {one} {:040} {:040}", 22, 15));
+    script.call(format!("sheet.add {one}a1a2a3a4a5a6a7a8a9 {:040} 0015:{:040}:01:001:a1", 22, 0));
 }
 
 /// The call that expires everything due with any clock and with rooms around the most there are, on a desk of one

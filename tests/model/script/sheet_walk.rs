@@ -10,9 +10,9 @@ use crate::values::{size, KINDS};
 use std::collections::BTreeSet;
 
 /// Kinds, counts and addresses above the last module's that are not allowed.
-const NO_KINDS: [u8; 5] = [0, 8, 9, 128, 255];
-const NO_COUNTS: [u8; 3] = [0, 241, 255];
-const NO_MODULES: [u8; 3] = [161, 162, 255];
+pub const NO_KINDS: [u8; 5] = [0, 8, 9, 128, 255];
+pub const NO_COUNTS: [u8; 3] = [0, 241, 255];
+pub const NO_MODULES: [u8; 3] = [161, 162, 255];
 /// Counts around the most that each size allows.
 const COUNTS: [u8; 16] = [0, 1, 2, 29, 30, 31, 59, 60, 61, 119, 120, 121, 239, 240, 241, 255];
 /// Versions of which a reader shows nothing.
@@ -20,12 +20,12 @@ const NO_VERSIONS: [u64; 8] = [0, 2, 3, 255, 256, 257, 258, 65535];
 /// A header with nothing right in it.
 const ALL_WRONG: [u8; HEADER] = [2, 0, 129, 0, 13, 0, 0, 0, 13, 0, 0, 128];
 /// Indexes past the last record of every sheet.
-const FAR: [u64; 10] =
+pub const FAR: [u64; 10] =
     [128, 255, 256, 65536, 4294967294, 4294967295, 4294967296, 4294967297, 9223372036854775808, 18446744073709551615];
 /// What a 32-bit number wraps at.
-const WRAP: u64 = 4294967296;
+pub const WRAP: u64 = 4294967296;
 /// The most bytes of a value.
-const MOST_BYTES: usize = 240;
+pub const MOST_BYTES: usize = 240;
 
 /// So many keys that rise: of one module, of one register or a few in each module, of a few modules, or of any.
 fn keys(random: &mut Random, count: usize) -> Vec<(u8, u8)> {
@@ -43,12 +43,12 @@ fn keys(random: &mut Random, count: usize) -> Vec<(u8, u8)> {
 }
 
 /// The most elements of a kind that so many bytes hold.
-fn most_elements(kind: u8, bytes: usize) -> usize {
+pub fn most_elements(kind: u8, bytes: usize) -> usize {
     bytes / size(kind).unwrap_or(1)
 }
 
 /// A kind, and a count of at most so many bytes, which are 8 or more: mostly few elements, now and then the most.
-fn shape(random: &mut Random, bytes: usize) -> (u8, u8) {
+pub fn shape(random: &mut Random, bytes: usize) -> (u8, u8) {
     let kind = random.pick(&KINDS);
     let most = most_elements(kind, bytes);
     let count = match random.below(6) {
@@ -61,13 +61,13 @@ fn shape(random: &mut Random, bytes: usize) -> (u8, u8) {
 }
 
 /// A setting with a value of the length that its head says, or of its count where there is no such kind.
-fn valued(random: &mut Random, head: Head) -> Setting {
+pub fn valued(random: &mut Random, head: Head) -> Setting {
     let length = head.length().unwrap_or(u128::from(head.count)) as usize;
     Setting { head, value: random.bytes(length) }
 }
 
 /// So many settings in order, all allowed, with values of at most so many bytes.
-fn settings(random: &mut Random, count: usize, bytes: usize) -> Vec<Setting> {
+pub fn settings(random: &mut Random, count: usize, bytes: usize) -> Vec<Setting> {
     let mut settings = Vec::new();
     for (module, register) in keys(random, count) {
         let (kind, count) = shape(random, bytes);
@@ -77,13 +77,13 @@ fn settings(random: &mut Random, count: usize, bytes: usize) -> Vec<Setting> {
 }
 
 /// A few settings, at least three, so that there is a first, a last and one between; mostly with short values.
-fn few(random: &mut Random) -> Vec<Setting> {
+pub fn few(random: &mut Random) -> Vec<Setting> {
     let (count, bytes) = (random.between(3, 8), random.pick(&[8, 8, 16, MOST_BYTES]));
     settings(random, count, bytes)
 }
 
 /// Settings as a call line names them.
-fn named(settings: &[Setting]) -> String {
+pub fn named(settings: &[Setting]) -> String {
     if settings.is_empty() {
         return "-".to_string();
     }
@@ -236,7 +236,7 @@ pub fn misordered(script: &mut Script) {
 
 /// Makes the setting of this place one that is not allowed. Only the first gets module 0, and only the last one an
 /// address above all modules, since another would be out of order.
-fn forbid(random: &mut Random, settings: &mut [Setting], place: usize) {
+pub fn forbid(random: &mut Random, settings: &mut [Setting], place: usize) {
     let last = settings.len() - 1;
     let setting = &mut settings[place];
     match random.below(8) {
@@ -543,7 +543,7 @@ pub fn several_faults(script: &mut Script) {
 }
 
 /// Gives a sheet the fault of this row, at this record where it is one of records, which is not the first.
-fn spoil(random: &mut Random, sheet: &mut Vec<u8>, row: No, record: usize) {
+pub fn spoil(random: &mut Random, sheet: &mut Vec<u8>, row: No, record: usize) {
     let place = HEADER + RECORD * record;
     match row {
         65 => sheet.truncate(random.below(HEADER)),
