@@ -39,6 +39,7 @@ pub use Rattle.scan.proofs.Laws.{makes-settled as scan-makes-settled, steps-set
 pub use Rattle.tally.proofs.Laws.{clears-settled, counts-where-settled, counts-settled}
 pub use Rattle.sheet.proofs.Laws.{checks-settled as sheet-checks-settled, reads-settled as sheet-reads-settled}
 pub use Rattle.sheet_writer.proofs.Laws.{writes-settled as sheet-writes-settled}
+pub use Rattle.sheet_editor.proofs.Laws.{removes-settled, removes-module-settled, adds-settled as sheet-adds-settled}
 pub use Rattle.kamzhor.proofs.Laws.{gives-frame-settled, gives-value-settled, gives-step-settled}
 -- ---- "refused with the number listed in the specification, by its order of checks": that number exactly when its row holds and no earlier
 -- one does, and done exactly when no row holds
@@ -71,6 +72,7 @@ pub use Rattle.varia.proofs.Ranking.{set-short-plainly, set-long-plainly, atten
 -- rows 65 to 70, then 56 and 57; 79, 68, 69 and 57
 pub use Rattle.sheet.proofs.Laws.{check-exactly as sheet-check-exactly, read-exactly as sheet-read-exactly}
 pub use Rattle.sheet_writer.proofs.Laws.{write-exactly as sheet-write-exactly}
+pub use Rattle.sheet_editor.proofs.Laws.{remove-exactly, module-exactly, add-exactly as sheet-add-exactly, add-refused as sheet-add-refused}
 pub use Rattle.sheet.proofs.Right.{whole as right-sheet-means, right as means-right-sheet}
 pub use Rattle.setting.proofs.Plain.{above-plainly, allowed-plainly, length-plainly, head-plainly, lengths-plainly, falls-plainly, unfit-plainly}
 pub use Rattle.setting.proofs.Plain.{row-plainly as sheet-row-plainly, rows-plainly as setting-rows-plainly}
@@ -90,6 +92,7 @@ pub use Rattle.scan.proofs.Laws.{told-number as scan-told-number}
 pub use Rattle.setting.proofs.Plain.{numbers-are as sheet-numbers-are}
 pub use Rattle.sheet.proofs.Plain.{told-number as sheet-told-number}
 pub use Rattle.sheet_writer.proofs.Laws.{told-number as sheet-writer-told-number}
+pub use Rattle.sheet_editor.proofs.Laws.{told-number as sheet-editor-told-number, numbers-are as sheet-editor-numbers-are}
 pub use Rattle.varia.proofs.Laws.{numbers-are as box-numbers-are, told-number as box-told-number}
 pub use Rattle.lanes.proofs.Laws.{numbers-are as lanes-numbers-are, told-number as lanes-told-number}
 pub use Rattle.lanes.proofs.Ranking.{join-exactly, withdraw-exactly, join-plainly, withdraw-plainly, their-plainly, their-again}
@@ -126,6 +129,7 @@ pub use Rattle.varia.proofs.Laws.{set-refusal-keeps, attenuate-refusal-keeps, m
 -- the calls on settings sheets
 pub use Rattle.sheet.proofs.Laws.{read-refusal-keeps as sheet-read-refusal-keeps}
 pub use Rattle.sheet_writer.proofs.Laws.{write-refusal-keeps as sheet-write-refusal-keeps}
+pub use Rattle.sheet_editor.proofs.Laws.{remove-refusal-keeps, module-refusal-keeps, add-refusal-keeps as sheet-add-refusal-keeps}
 
 -- `telegram::read`
 pub read-keeps : (frame room : List ℕ) (f : Unreadable) (room′ : List ℕ) → Reads frame room (reading.Refused f) room′ → room′ ≡ room

@@ -32,10 +32,12 @@ use Rattle.lanes.specs.Lanes.{ownLane, emptyLane}
 use Rattle.lanes.specs.Withdraw.{withdrawRefusal}
 use Rattle.lent.specs.Lent.{over}
 use Rattle.setting.specs.Setting.{lengthOf, lengthsTo, headOf, tailOf, rowsIn, heads, tails, settingsIn, isAbove, isAllowed, falls, unfit, someOf}
-use Rattle.sheet.specs.Sheet.{headerFor, recordFor, recordsFor, valuesFor, sheetOf, fieldAt, versionIn, countIn, recordsAt, valuesAt, recordsIn, valuesIn, isMisplaced, checkRefusal}
+use Rattle.sheet.specs.Sheet.{headerFor, recordFor, recordsFor, valuesFor, sheetOf, fieldAt, versionIn, countIn, recordsAt, valuesAt, recordsIn, valuesIn, held, named, isMisplaced, checkRefusal}
 use Rattle.sheet.specs.Sheet as sheet
 use Rattle.sheet_writer.specs.Writer.{handed, isMisstated}
 use Rattle.sheet_writer.specs.Writer as writer
+use Rattle.sheet_editor.specs.Editor.{among}
+use Rattle.sheet_editor.specs.Editor as editor
 use Rattle.promises.specs.Numbers.{allGiven, refusals}
 
 pub every-number : allGiven refusals ≡ true
@@ -47,4 +49,5 @@ unfolding allGiven firstPlace passedFrom substituted framed between restored mes
     edgeRefusal attenuationRefusal over ownLane emptyLane laneFor joinRefusal nextDistance grantRefusal withdrawRefusal
     lengthOf lengthsTo headOf tailOf rowsIn heads tails settingsIn isAbove isAllowed falls unfit someOf headerFor recordFor recordsFor valuesFor sheetOf
     fieldAt versionIn countIn recordsAt valuesAt recordsIn valuesIn isMisplaced checkRefusal sheet.readRefusal handed isMisstated writer.writeRefusal
+    held named among editor.removeRefusal editor.moduleRefusal editor.addRefusal
 every-number = refl

@@ -47,8 +47,10 @@ use Rattle.lanes.specs.declared.Granting.the-variants.{TakenOut}
 use Rattle.lanes.specs.declared.Lanes.{Lanes}
 use Rattle.sheet.specs.Sheet.{countIn, recordsIn, checkRefusal, checkAnswer, checkTold, readRefusal}
 use Rattle.sheet.specs.Sheet as sheet
-use Rattle.setting.specs.Setting.{heads}
+use Rattle.setting.specs.Setting.{head, heads}
+use Rattle.setting.specs.Setting as settings
 use Rattle.sheet_writer.specs.Writer as writer
+use Rattle.sheet_editor.specs.Editor as editor
 use Rattle.rows.specs.Rows.{raised}
 use Rattle.promises.specs.Slips.{orZero, bench, request, askedDesk, usedDesk}
 
@@ -163,6 +165,16 @@ readingSheet bytes index room = sheet.readTold (sheet.readAnswer (readRefusal by
 
 abbrev pub writingSheet : List ℕ → List ℕ → List ℕ → Option ℕ
 writingSheet rows values room = writer.writeTold (writer.writeAnswer (writer.writeRefusal rows values room) 0)
+
+abbrev pub removing : List ℕ → ℕ → ℕ → Option ℕ
+removing room size index = editor.editTold (editor.editAnswer (editor.removeRefusal room size index) 0)
+
+abbrev pub removingModule : List ℕ → ℕ → ℕ → Option ℕ
+removingModule room size unit = editor.editTold (editor.editAnswer (editor.moduleRefusal room size unit) 0)
+
+abbrev pub addingSetting : List ℕ → ℕ → ℕ → ℕ → ℕ → ℕ → List ℕ → Option ℕ
+addingSetting room size unit register kind count value =
+    editor.editTold (editor.editAnswer (editor.addRefusal room size (settings.setting (head unit register kind count) value)) 0)
 
 -- the reply to that request
 abbrev pub reply : List ℕ
@@ -336,4 +348,32 @@ refusals =
     ∷ gives (writingSheet (rowOf 15 48 3 1 2 (replicate 7 0)) (52 ∷ 18 ∷ []) []) 69
     ∷ gives (writingSheet (rowOf 15 48 3 1 2 []) (52 ∷ 18 ∷ []) (replicate 21 0)) 57
     ∷ gives (writingSheet (rowOf 15 48 3 1 2 []) (52 ∷ 18 ∷ []) (replicate 22 0)) 0
+    ∷ gives (removing (sheetWith 1 1 12 20 (rowOf 15 48 3 1 0 (52 ∷ 18 ∷ []))) 22 0) 0
+    ∷ gives (removing (sheetWith 1 1 12 20 (rowOf 15 48 3 1 0 (52 ∷ 18 ∷ []))) 23 0) 80
+    ∷ gives (removing (sheetWith 1 1 12 20 (rowOf 15 48 3 1 0 (52 ∷ 18 ∷ []))) 21 0) 70
+    ∷ gives (removing (sheetWith 1 1 12 20 (rowOf 15 48 3 1 0 (52 ∷ 18 ∷ []))) 22 1) 77
+    ∷ gives (removing [] 0 0) 65
+    ∷ gives (removing [] 1 0) 80
+    ∷ gives (removing (sheetWith 1 2 12 28 (rowOf 15 48 1 1 0 (rowOf 15 49 1 1 1 (1 ∷ 2 ∷ [])))) 30 1) 0
+    ∷ gives (removing (sheetWith 1 2 12 28 (rowOf 15 48 1 1 0 (rowOf 15 49 1 1 1 (1 ∷ 2 ∷ [])))) 30 2) 77
+    ∷ gives (removing (sheetWith 2 1 12 20 (rowOf 15 48 3 1 0 (52 ∷ 18 ∷ []))) 22 1) 66
+    ∷ gives (removingModule (sheetWith 1 2 12 28 (rowOf 15 48 1 1 0 (rowOf 15 49 1 1 1 (1 ∷ 2 ∷ [])))) 30 15) 0
+    ∷ gives (removingModule (sheetWith 1 2 12 28 (rowOf 15 48 1 1 0 (rowOf 15 49 1 1 1 (1 ∷ 2 ∷ [])))) 30 14) 77
+    ∷ gives (removingModule (sheetWith 1 2 12 28 (rowOf 15 48 1 1 0 (rowOf 15 49 1 1 1 (1 ∷ 2 ∷ [])))) 30 16) 77
+    ∷ gives (removingModule (sheetWith 1 2 12 28 (rowOf 15 48 1 1 0 (rowOf 15 49 1 1 1 (1 ∷ 2 ∷ [])))) 31 16) 80
+    ∷ gives (removingModule (sheetWith 1 2 12 28 (rowOf 15 48 1 1 0 (rowOf 15 49 1 1 1 (1 ∷ 2 ∷ [])))) 30 0) 77
+    ∷ gives (removingModule (sheetWith 1 2 12 28 (rowOf 15 48 1 1 0 (rowOf 15 49 1 1 1 (1 ∷ 2 ∷ [])))) 30 255) 77
+    ∷ gives (addingSetting (sheetWith 1 1 12 20 (rowOf 15 48 3 1 0 (52 ∷ 18 ∷ replicate 9 0))) 22 15 49 1 1 (7 ∷ [])) 0
+    ∷ gives (addingSetting (sheetWith 1 1 12 20 (rowOf 15 48 3 1 0 (52 ∷ 18 ∷ replicate 8 0))) 22 15 49 1 1 (7 ∷ [])) 80
+    ∷ gives (addingSetting (sheetWith 1 1 12 20 (rowOf 15 48 3 1 0 (52 ∷ 18 ∷ replicate 9 0))) 32 15 49 1 1 (7 ∷ [])) 80
+    ∷ gives (addingSetting (sheetWith 1 1 12 20 (rowOf 15 48 3 1 0 (52 ∷ 18 ∷ replicate 9 0))) 23 15 48 0 1 (7 ∷ [])) 70
+    ∷ gives (addingSetting (sheetWith 1 1 12 20 (rowOf 15 48 3 1 0 (52 ∷ 18 ∷ replicate 9 0))) 22 15 48 1 1 (7 ∷ [])) 78
+    ∷ gives (addingSetting (sheetWith 1 1 12 20 (rowOf 15 48 3 1 0 (52 ∷ 18 ∷ replicate 0 0))) 22 15 48 1 1 (7 ∷ [])) 78
+    ∷ gives (addingSetting (sheetWith 1 1 12 20 (rowOf 15 48 3 1 0 (52 ∷ 18 ∷ replicate 9 0))) 22 161 48 1 1 (7 ∷ [])) 69
+    ∷ gives (addingSetting (sheetWith 1 1 12 20 (rowOf 15 48 3 1 0 (52 ∷ 18 ∷ replicate 9 0))) 22 0 48 1 1 (7 ∷ [])) 69
+    ∷ gives (addingSetting (sheetWith 1 1 12 20 (rowOf 15 48 3 1 0 (52 ∷ 18 ∷ replicate 9 0))) 22 15 48 8 1 (7 ∷ [])) 69
+    ∷ gives (addingSetting (sheetWith 1 1 12 20 (rowOf 15 48 3 1 0 (52 ∷ 18 ∷ replicate 9 0))) 22 15 48 1 0 []) 69
+    ∷ gives (addingSetting (sheetWith 1 1 12 20 (rowOf 15 48 3 1 0 (52 ∷ 18 ∷ replicate 9 0))) 22 15 48 1 1 []) 69
+    ∷ gives (addingSetting (sheetWith 1 1 12 20 (rowOf 15 48 3 1 0 (52 ∷ 18 ∷ replicate 9 0))) 22 15 48 1 2 (7 ∷ [])) 69
+    ∷ gives (addingSetting (sheetWith 1 1 12 20 (rowOf 15 48 3 1 0 (52 ∷ 18 ∷ replicate 9 0))) 22 14 48 1 1 (7 ∷ [])) 0
     ∷ []
