@@ -4,15 +4,15 @@ use mathlib.Core.Path.{_≡_, refl, sym, ap, _∙_}
 use mathlib.Core.List.{List, [], _∷_, _++_}
 use mathlib.Core.Bool.{Bool, true, false, cond}
 use mathlib.Core.Logic.{_⊎_, inl, inr, ⊎-elim}
-use Prim.Native.Nat.{ℕ, zero, suc, _+_, _-_, _≤_, _<_}
+use Prim.Native.Nat.{ℕ, zero, suc, _+_, _-_, _≤_, _<_, min}
 use native.Mathlib.Nat.{le-of-suc-le-suc, not-suc-le-zero, add-suc, suc-add}
 use native.Mathlib.Omega.{arith}
 use borrow.Author.Tests.{leb-true, leb-false}
 use lib.Dec.{leb}
-use lib.ListN.{length, getD, take, drop, set, length-drop, length-set, drop-of-length-le}
-use lib.Seq.{drop-cons, drop-drop, drop-set-lt, take-all, take-nil}
+use lib.ListN.{length, getD, take, drop, set, length-drop, length-set, length-take, drop-of-length-le}
+use lib.Seq.{drop-cons, drop-drop, drop-set-lt, take-all, take-nil, getD-take, getD-drop}
 use Rattle.lent.specs.Lent.{over, overAt, Moves}
-use Rattle.lent.proofs.Laws.{overAt-none, overAt-past, overAt-set}
+use Rattle.lent.proofs.Laws.{overAt-none, overAt-past, overAt-set, length-overAt}
 
 -- a part of a part
 pub drop-take : (j m : ℕ) (l : List ℕ) → j ≤ m → drop j (take m l) ≡ take (m - j) (drop j l)
@@ -284,3 +284,44 @@ up-done before from to size room i all u =
     ∙ ap (λ (k : ℕ). overAt k (take i (drop (from + (size - i)) before)) before) (none to)
     ∙ ap (λ (k : ℕ). overAt to (take i (drop k before)) before) (none from)
     ∙ ap (λ (k : ℕ). overAt to (take k (drop from before)) before) same
+
+-- ---- what a move is, place by place
+
+getD-laid : (k : ℕ) (xs d : List ℕ) (i : ℕ) → i < length xs → k + i < length d → getD (overAt k xs d) (k + i) 0 ≡ getD xs i 0
+unfolding overAt over
+getD-laid zero [] d i h l = absurd (not-suc-le-zero h)
+getD-laid zero (x ∷ xs) [] i h l = absurd (omega (arith, l))
+getD-laid zero (x ∷ xs) (y ∷ d) zero h l = refl
+getD-laid zero (x ∷ xs) (y ∷ d) (suc i) h l =
+    ap (λ (j : ℕ). getD (x ∷ over xs d) j 0) (add-suc 0 i) ∙ getD-laid zero xs d i (le-of-suc-le-suc h) (omega (arith, l))
+getD-laid (suc k) xs [] i h l = absurd (omega (arith, l))
+getD-laid (suc k) xs (y ∷ d) i h l = ap (λ (j : ℕ). getD (y ∷ overAt k xs d) j 0) (suc-add k i) ∙ getD-laid k xs d i h (omega (arith, l))
+
+getD-behind : (k : ℕ) (xs d : List ℕ) (j : ℕ) → k + length xs ≤ j → getD (overAt k xs d) j 0 ≡ getD d j 0
+getD-behind k xs d j h =
+    let e : j + 0 ≡ j = omega arith in
+    ap (λ (i : ℕ). getD (overAt k xs d) i 0) (sym e)
+    ∙ (sym (getD-drop j (overAt k xs d) 0 0)
+    ∙ (ap (λ (l : List ℕ). getD l 0 0) (drop-past j k xs d h) ∙ (getD-drop j d 0 0 ∙ ap (λ (i : ℕ). getD d i 0) e)))
+
+-- the moved bytes stand where they were moved to, as they stood before; every other byte is as it was, and so is one for which there is none
+pub moves-plainly : (room : List ℕ) (from to size : ℕ) (room′ : List ℕ) → Moves room from to size room′
+    → (length room′ ≡ length room)
+    × ((i : ℕ) → i < size → from + i < length room → to + i < length room → getD room′ (to + i) 0 ≡ getD room (from + i) 0)
+    × ((i : ℕ) → length room ≤ from + i → getD room′ (to + i) 0 ≡ getD room (to + i) 0)
+    × ((j : ℕ) → (j < to) ⊎ (to + size ≤ j) → getD room′ j 0 ≡ getD room j 0)
+moves-plainly room from to size room′ moved = (
+  ap length moved ∙ length-overAt to (take size (drop from room)) room,
+  λ i few source target.
+      ap (λ (l : List ℕ). getD l (to + i) 0) moved
+      ∙ (getD-laid to (take size (drop from room)) room i (let t = taken in omega (arith, t, few, source)) target
+      ∙ (getD-take size (drop from room) i 0 few ∙ getD-drop from room i 0)),
+  λ i past. ap (λ (l : List ℕ). getD l (to + i) 0) moved ∙ getD-behind to (take size (drop from room)) room (to + i) (let t = taken in omega (arith, t, past)),
+  λ j elsewhere.
+      ap (λ (l : List ℕ). getD l j 0) moved
+      ∙ ⊎-elim (λ low. getD-before j to (take size (drop from room)) room low)
+      (λ high. getD-behind to (take size (drop from room)) room j (let t = taken in omega (arith, t, high))) elsewhere,
+)
+  where
+    taken : length (take size (drop from room)) ≡ min size (length room - from)
+    taken = length-take size (drop from room) ∙ ap (min size) (length-drop from room)

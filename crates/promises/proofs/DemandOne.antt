@@ -73,6 +73,7 @@ pub use Rattle.varia.proofs.Ranking.{set-short-plainly, set-long-plainly, atten
 pub use Rattle.sheet.proofs.Laws.{check-exactly as sheet-check-exactly, read-exactly as sheet-read-exactly}
 pub use Rattle.sheet_writer.proofs.Laws.{write-exactly as sheet-write-exactly}
 pub use Rattle.sheet_editor.proofs.Laws.{remove-exactly, module-exactly, add-exactly as sheet-add-exactly, add-refused as sheet-add-refused}
+pub use Rattle.sheet_editor.proofs.Plainly.{remove-plainly, module-plainly, plainRows as sheet-add-rows, add-plainly as sheet-add-plainly}
 pub use Rattle.sheet.proofs.Right.{whole as right-sheet-means, right as means-right-sheet}
 pub use Rattle.setting.proofs.Plain.{above-plainly, allowed-plainly, length-plainly, head-plainly, lengths-plainly, falls-plainly, unfit-plainly}
 pub use Rattle.setting.proofs.Plain.{row-plainly as sheet-row-plainly, rows-plainly as setting-rows-plainly}

@@ -124,7 +124,9 @@ pub use Rattle.sheet_writer.proofs.Laws.{write-answered, all-taken, write-of, h
 -- one sheet byte by byte, and the empty one
 pub use Rattle.sheet.proofs.Example.{two-written, none-written, two-held, two-writable}
 -- ---- 02, #114: settings thrown out of a sheet and added, where it stands: the sheet of what is left, and all behind it as it was
-pub use Rattle.sheet_editor.proofs.Laws.{remove-kept, module-kept, add-kept, added-right, added-removed, removed-added}
+pub use Rattle.sheet_editor.proofs.Laws.{remove-kept, module-kept, add-kept, added-right, added-removed, removed-added, removes-done, removes-module-done, adds-done}
+pub use Rattle.sheet_editor.proofs.Plainly.{kept-plainly as sheet-kept-plainly}
+pub use Rattle.lent.proofs.Moving.{moves-plainly}
 pub use Rattle.sheet_editor.proofs.Example.{first-out, first-back, all-out}
 pub use Rattle.sheet_editor.proofs.Rising.{without-plainly, others-none, others-drops, others-keeps, among-plainly as sheet-among-plainly, added-out, out-added}
 

@@ -7,17 +7,17 @@ use mathlib.Core.Logic.{_≢_, _⊎_, inl, inr, ⊎-elim}
 use Prim.Native.Nat.{ℕ, zero, suc, _+_, _≤_, _<_}
 use native.Mathlib.Decide.{decLt, decLe}
 use native.Mathlib.Omega.{arith}
-use borrow.Author.Tests.{lt-ltb, le-ltb, eq-eqb, ne-eqb, eqb-true, eqb-false}
+use borrow.Author.Tests.{lt-ltb, le-ltb, eq-eqb, ne-eqb, eqb-true}
 use lib.Dec.{eqb, ltb}
 use lib.ListN.{length, take, drop}
 use lib.Seq.{drop-nil}
 use Rattle.first.specs.First.{firstPlace}
 use Rattle.first.proofs.Laws.{Ended, ended}
-use Rattle.rows.proofs.Laws.{Decides, decides-eq, decides-and, decides-not, told-true, told-false}
+use Rattle.rows.proofs.Laws.{Decides, decides-eq, decides-and, told-true, told-false}
 use Rattle.setting.specs.declared.Head.{Head}
 use Rattle.setting.specs.Setting.{Setting, head, Above, Some, isAbove, notBelow, someOf}
 use Rattle.setting.proofs.Laws.{decides-above, decides-some}
-use Rattle.sheet.specs.Sheet.{named, Writable}
+use Rattle.sheet.specs.Sheet.{named}
 use Rattle.sheet_editor.specs.Editor.{without, others, among, hasNoneOf, SameKey, sameKey, IsThere, isThere, cutOut, putIn}
 
 -- ---- one record

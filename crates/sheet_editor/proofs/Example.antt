@@ -1,7 +1,7 @@
 -- The sheet of two settings in a buffer of 36 bytes, computed: its first record thrown out and added again, and all of its module thrown out. The
 -- bytes behind each new sheet are those that stood there.
 -- Assumes nothing.
-use mathlib.Core.Path.{_≡_, refl}
+use mathlib.Core.Path.{refl}
 use mathlib.Core.List.{List, [], _∷_, _++_}
 use Prim.Native.Nat.{ℕ}
 use lib.ListN.{drop}

@@ -1,9 +1,9 @@
 -- What callers may cite of throwing settings out of a sheet and of adding one. 02, #114.
 -- Assumes nothing.
 use mathlib.Core.Path.{_≡_, refl, sym, ap, subst, _∙_}
-use mathlib.Core.Bool.{Bool, true, false, cond}
+use mathlib.Core.Bool.{Bool, true, false}
 use mathlib.Core.List.{List, [], _∷_, _++_}
-use mathlib.Core.Logic.{_≢_, _⊎_, inl, inr, ⊎-elim, _↔_}
+use mathlib.Core.Logic.{_≢_, _⊎_, inl, inr, _↔_}
 use mathlib.Core.Option.{Option, some, none}
 use Prim.Native.Nat.{ℕ, _≤_, _<_}
 use native.Mathlib.Omega.{arith}
@@ -12,7 +12,7 @@ use lib.Dec.{eqb, leb, ltb}
 use lib.ListN.{length, getD, take, drop}
 use Rattle.lent.specs.Lent.{over}
 use Rattle.lent.proofs.Laws.{over-is, take-over, length-over}
-use Rattle.rows.specs.Rows.{row, test, Ranked, Numbered, NoRow, First, firstOf, orLater, passedUp, raised, numbersOf}
+use Rattle.rows.specs.Rows.{row, test, Ranked, Numbered, NoRow, First, firstOf, passedUp, raised, numbersOf}
 use Rattle.rows.proofs.Laws.{Decides, decides-lt, decides-le, decides-eq, decides-not, decides-or, decides-as, ranked, _otherwise_, ranked-append, ranked-up}
 use Rattle.rows.proofs.Laws.{refused-exactly, done-exactly, numbered, or-none, raised-none, first-false, told-true, told-false, clash}
 use Rattle.rows.proofs.Settled.{settled, settled-with}
@@ -27,7 +27,7 @@ use Rattle.sheet.proofs.Right.{check-ranked, sheet-of-held}
 use Rattle.sheet.proofs.Written.{held-writable, held-of-sheet, sheet-right}
 use Rattle.sheet_editor.specs.Editor.{without, others, among, IsOverstated, sheetRows, HasNot, HasNoneOf, removeRows, moduleRows, IsUnfit, SameKey, IsThere, IsFull, IsNarrow, addRows}
 use Rattle.sheet_editor.specs.Editor.{sheetRefusal, hasNoneOf, isUnfit, isThere, removeTests, moduleTests, addTests, removeRefusal, moduleRefusal, addRefusal}
-use Rattle.sheet_editor.specs.Editor.{faultNumber, editTold, editAnswer, editRoom, Edits, Removes, RemovesModule, Adds, Numbers}
+use Rattle.sheet_editor.specs.Editor.{faultNumber, editTold, editAnswer, Edits, Removes, RemovesModule, Adds, Numbers}
 use Rattle.sheet_editor.specs.Promised.{Kept}
 use Rattle.sheet_editor.specs.declared.Editing.{Editing}
 use Rattle.sheet_editor.specs.declared.Editing.the-variants.{Edited, Refused}
@@ -197,8 +197,8 @@ old-long room size e =
     let none-wrong = done-exactly (checkRows (take size room)) (checkRefusal (take size room)) (check-ranked (take size room)) .1 (right .1) in
     stated-long room size (countIn (take size room)) (stands room size (countIn (take size room)) (right .0) none-wrong refl)
 
--- where nothing refuses, that is what is done
-removes-done : (room : List ℕ) (size k : ℕ) (r : Editing) (room′ : List ℕ) → size ≤ length room → Right (take size room) → k < length (held (take size room))
+-- ---- where nothing refuses, that is what is done
+pub removes-done : (room : List ℕ) (size k : ℕ) (r : Editing) (room′ : List ℕ) → size ≤ length room → Right (take size room) → k < length (held (take size room))
     → Removes room size k r room′
     → (r ≡ Edited (length (sheetOf (without k (held (take size room)))))) × (room′ ≡ over (sheetOf (without k (held (take size room)))) room)
 unfolding removeRefusal
@@ -206,7 +206,7 @@ removes-done room size k r room′ fits right l p =
     let none-wrong = done-exactly (checkRows (take size room)) (checkRefusal (take size room)) (check-ranked (take size room)) .1 right in
     rw (le-ltb (length room) size fits, none-wrong, lt-leb (length (held (take size room))) k l) at p
 
-adds-done : (room : List ℕ) (size : ℕ) (h : Head) (value : List ℕ) (r : Editing) (room′ : List ℕ) → size ≤ length room → Right (take size room)
+pub adds-done : (room : List ℕ) (size : ℕ) (h : Head) (value : List ℕ) (r : Editing) (room′ : List ℕ) → size ≤ length room → Right (take size room)
     → Allowed h → length value ≡ lengthOf h → (IsThere (held (take size room)) (setting h value) → ⊥) → length (held (take size room)) < 128
     → length (sheetOf (among (setting h value) (held (take size room)))) ≤ length room → Adds room size h value r room′
     → (r ≡ Edited (length (sheetOf (among (setting h value) (held (take size room)))))) × (room′ ≡ over (sheetOf (among (setting h value) (held (take size room)))) room)
@@ -222,6 +222,14 @@ adds-done room size h value r room′ fits right allowed exact not-there few wid
       lt-leb 128 (length (held (take size room))) few,
       le-ltb (length room) (length (sheetOf (among (setting h value) (held (take size room))))) wide,
     ) at p
+
+pub removes-module-done : (room : List ℕ) (size unit k : ℕ) (r : Editing) (room′ : List ℕ) → size ≤ length room → Right (take size room)
+    → k < length (held (take size room)) → named (held (take size room)) k .unit ≡ unit → RemovesModule room size unit r room′
+    → (r ≡ Edited (length (sheetOf (others unit (held (take size room)))))) × (room′ ≡ over (sheetOf (others unit (held (take size room)))) room)
+unfolding moduleRefusal
+removes-module-done room size unit k r room′ fits right l same p =
+    let none-wrong = done-exactly (checkRows (take size room)) (checkRefusal (take size room)) (check-ranked (take size room)) .1 right in
+    rw (le-ltb (length room) size fits, none-wrong, told-false (none-of (held (take size room)) unit) (λ none-there. none-there k l same)) at p
 
 -- none of that module and register is none there
 absent : (settings : List Setting) (new : Setting) → Apart new settings → IsThere settings new → ⊥

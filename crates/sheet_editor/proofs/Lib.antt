@@ -4,4 +4,5 @@ pub mod Chosen
 pub mod Steps
 pub mod Rising
 pub mod Laws
+pub mod Plainly
 pub mod Example

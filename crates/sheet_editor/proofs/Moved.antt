@@ -1,19 +1,17 @@
 -- What the moves within the room come to: records and values of the new sheet, one behind the other, over the room as it was. Nothing that is
 -- still needed is overwritten: each stretch is what stood there before the call.
 -- Assumes nothing.
-use mathlib.Core.Path.{_≡_, refl, sym, ap, ap₂, subst, _∙_}
+use mathlib.Core.Path.{_≡_, refl, sym, ap, ap₂, _∙_}
 use mathlib.Core.Bool.{cond, not}
 use mathlib.Core.List.{List, [], _∷_, _++_, append-assoc}
 use mathlib.Core.Option.{none}
-use Prim.Native.Nat.{ℕ, zero, suc, _+_, _-_, _*_, _≤_, _<_}
-use native.Mathlib.Nat.{le-antisymm}
+use Prim.Native.Nat.{ℕ, _+_, _-_, _*_, _≤_, _<_}
 use native.Mathlib.Decide.{decLt}
 use native.Mathlib.Omega.{arith}
 use borrow.Author.Tests.{le-ltb, lt-ltb}
 use lib.Dec.{ltb}
 use lib.ListN.{length, take, drop, length-append, length-drop, take-append-drop}
-use lib.Seq.{take-append-le, drop-append-le, take-append-add, take-at, drop-at, drop-drop, take-take, take-all, length-take-le}
-use Rattle.values.specs.Values.{bytesOf}
+use lib.Seq.{take-append-le, drop-append-le, take-append-add, take-at, drop-drop, take-take, take-all, length-take-le}
 use Rattle.first.specs.First.{firstPlace}
 use Rattle.first.proofs.Laws.{first-same}
 use Rattle.lent.specs.Lent.{over, overAt, Moves, Lays}
@@ -34,7 +32,7 @@ use Rattle.sheet_writer.specs.Writer.{handed, laidFrom, LaysAgain}
 use Rattle.sheet_writer.proofs.Handed.{sheet-laid, length-laid, lengths-from}
 use Rattle.sheet_writer.proofs.Steps.{length-laid-from}
 use Rattle.sheet_editor.specs.Editor.{cutOut, putIn}
-use Rattle.sheet_editor.proofs.Parts.{lengths-split, lengths-front, lengths-joined, settings-joined, those-before, those-behind, front-lengths, front-long, front-sized}
+use Rattle.sheet_editor.proofs.Parts.{lengths-split, lengths-joined, settings-joined, those-before, those-behind, front-lengths, front-long, front-sized}
 
 -- ---- a right sheet in the room: its records, its values, and what stands behind it
 

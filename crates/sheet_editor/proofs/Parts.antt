@@ -1,14 +1,13 @@
 -- A sheet's records and values part by part, and the settings that they are: those before a place and those behind it.
 -- Assumes nothing.
-use mathlib.Core.Path.{_≡_, refl, sym, ap, ap₂, _∙_}
-use mathlib.Core.List.{List, [], _∷_, _++_}
+use mathlib.Core.Path.{_≡_, sym, ap, ap₂, _∙_}
+use mathlib.Core.List.{List, _∷_, _++_}
 use Prim.Native.Nat.{ℕ, zero, suc, _+_, _-_, _*_, _≤_, _<_}
 use native.Mathlib.Omega.{arith}
-use lib.ListN.{length, getD, take, drop, length-append, length-drop, length-take, take-append-drop, List·getD-append}
+use lib.ListN.{length, take, drop, length-drop, take-append-drop, List·getD-append}
 use lib.Seq.{take-append-le, drop-append-le, take-at, drop-at, drop-drop, length-take-le}
-use Rattle.setting.specs.declared.Head.{Head}
 use Rattle.setting.specs.Setting.{Setting, setting, lengthOf, lengthsTo, headOf, settingsIn}
-use Rattle.setting.proofs.Lists.{headFrom, row-on, lengths-same, lengths-row, lengths-next, length-settings}
+use Rattle.setting.proofs.Lists.{headFrom, lengths-same, lengths-row, length-settings}
 
 -- ---- a row at the front of others
 

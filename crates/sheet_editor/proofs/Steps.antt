@@ -1,14 +1,14 @@
 -- What the code's steps need.
 -- Assumes nothing.
-use mathlib.Core.Path.{_≡_, refl, sym, ap, ap₂, subst, _∙_}
-use mathlib.Core.Bool.{Bool, true, false, cond, not, _&&_, _||_}
-use mathlib.Core.List.{List, [], _∷_, _++_}
-use mathlib.Core.Logic.{_≢_, inl, inr}
+use mathlib.Core.Path.{_≡_, refl, sym, ap, _∙_}
+use mathlib.Core.Bool.{Bool, true, false, cond, not, _&&_}
+use mathlib.Core.List.{List, [], _∷_}
+use mathlib.Core.Logic.{_≢_}
 use mathlib.Core.Option.{Option, some, none}
-use Prim.Native.Nat.{ℕ, zero, suc, _+_, _-_, _*_, _≤_, _<_}
+use Prim.Native.Nat.{ℕ, _+_, _-_, _*_, _≤_, _<_}
 use native.Mathlib.Omega.{arith}
 use borrow.Author.Tests.{lt-ltb, le-ltb, ltb-true, ltb-false, le-leb, lt-leb, eq-eqb, ne-eqb}
-use lib.Dec.{eqb, leb, ltb}
+use lib.Dec.{eqb, ltb}
 use lib.ListN.{length, take, drop}
 use Rattle.rows.specs.Rows.{firstOf, orLater, raised}
 use Rattle.rows.proofs.Laws.{clash}
@@ -17,7 +17,7 @@ use Rattle.lent.specs.Lent.{Lays, Moves}
 use Rattle.values.specs.Values.{bytesOf}
 use Rattle.setting.specs.declared.Head.{Head}
 use Rattle.setting.specs.declared.Fault.{Fault as SheetFault}
-use Rattle.setting.specs.Setting.{Setting, setting, head, lengthOf, lengthsTo, Allowed, rowsIn, heads, tails, notBelow, isAllowed}
+use Rattle.setting.specs.Setting.{Setting, setting, head, lengthOf, Allowed, rowsIn, heads, tails, notBelow, isAllowed}
 use Rattle.setting.proofs.Lists.{headFrom, lengths-mono}
 use Rattle.setting.proofs.Steps.{some-none}
 use Rattle.sheet.specs.Sheet.{recordFor, sheetOf, named, countIn, held, checkRefusal, checkAnswer}
@@ -33,7 +33,6 @@ use Rattle.sheet_editor.specs.declared.Editing.{Editing}
 use Rattle.sheet_editor.specs.declared.Editing.the-variants.{Edited, Refused}
 use Rattle.sheet_editor.specs.declared.Fault.{Fault}
 use Rattle.sheet_editor.specs.declared.Fault.the-variants.{Overstated, WrongSheet, NothingThere, NotAllowed, AlreadyThere, Full, NoRoom}
-use Rattle.sheet_editor.specs.declared.Judged.{Judged}
 use Rattle.sheet_editor.specs.declared.Judged.the-variants.{Right, Wrong}
 
 -- ---- the sheet is judged

@@ -11,7 +11,6 @@ use lib.ListN.{length, take, drop}
 use Rattle.lent.specs.Lent.{over}
 use Rattle.rows.specs.Rows.{Row, row, Test, test, firstOf, orLater, passedUp, raised}
 use Rattle.setting.specs.declared.Head.{Head}
-use Rattle.setting.specs.declared.Fault.{Fault as SheetFault}
 use Rattle.setting.specs.Setting.{Setting, setting, lengthOf, Allowed, Some, isAbove, isAllowed, someOf, faultNumber as sheetNumber}
 use Rattle.sheet.specs.Sheet.{sheetOf, named, countIn, held, checkRows, checkRefusal}
 use Rattle.sheet_editor.specs.declared.Editing.{Editing}
