@@ -38,6 +38,45 @@ pub begins-plainly : (job unit : ℕ) (calls : List Call)
     → Evening job unit (record { job = job; unit = unit; short = Unknown; long = Unknown; out = Nothing }) (afterAll freshDesk calls) []
 begins-plainly job unit calls = begins calls
 
+-- ---- and whatever is an evening began so, or came by one call from an evening: one of the box, an opening, a reply, a cancel or an expiry, as
+-- its contract allows it, with that answer told to the box and written down
+
+pub evening-only : {job unit : ℕ} {box : FilterBox} {desk : Desk} {past : List Event} → Evening job unit box desk past
+    → ((box ≡ record { job = job; unit = unit; short = Unknown; long = Unknown; out = Nothing })
+    × ((calls : List Call) × (desk ≡ afterAll freshDesk calls))
+    × (past ≡ []))
+    ⊎ ((b : FilterBox) × (d : Desk) × (earlier : List Event) × Evening job unit b d earlier
+    × (((pass : Pass) × (tenths : ℕ) × (wait : ℕ) × (clock : ℕ) × (room : List ℕ) × (r : AfterAsk) × (room′ : List ℕ)
+    × SetsEdge pass b d tenths wait clock room r room′ × (box ≡ r .filters) × (desk ≡ r .desk) × (past ≡ ofEdge pass tenths (r .answer) ∷ earlier))
+    ⊎ (((wait : ℕ) × (clock : ℕ) × (room : List ℕ) × (r : AfterAsk) × (room′ : List ℕ)
+    × (((permille : ℕ) × Attenuates b d permille wait clock room r room′)
+    ⊎ (ReadsMonitor b d wait clock room r room′ ⊎ ReadsStatus b d wait clock room r room′))
+    × (box ≡ r .filters) × (desk ≡ r .desk) × (past ≡ ofAsking (r .answer) ∷ earlier))
+    ⊎ (((what : Request) × (bytes : List ℕ) × (clock : ℕ) × (room : List ℕ) × (r : AfterOpen) × (room′ : List ℕ) × Opens d what bytes clock room r room′
+    × (box ≡ b) × (desk ≡ r .desk) × (past ≡ ofOpening (r .answer) ∷ earlier))
+    ⊎ (((frame : List ℕ) × (room : List ℕ) × (r : AfterReply) × (room′ : List ℕ) × Replies d frame room r room′ × HearsReply b (r .answer) box
+    × (desk ≡ r .desk) × (past ≡ ofBooking (r .answer) ∷ earlier))
+    ⊎ ((r : AfterClose)
+    × (((theirs : ℕ) × (address : ℕ) × (clock : ℕ) × Cancels d theirs address clock r) ⊎ ((clock : ℕ) × Expires d clock r))
+    × HearsClosing b (r .answer) box × (desk ≡ r .desk) × (past ≡ ofClosing (r .answer) ∷ earlier)))))))
+evening-only (begins calls) = inl (refl, (calls, refl), refl)
+evening-only (sets evening pass tenths wait clock room r room′ c) =
+    inr (_, _, _, evening, inl (pass, tenths, wait, clock, room, r, room′, c, refl, refl, refl))
+evening-only (attenuates evening permille wait clock room r room′ c) =
+    inr (_, _, _, evening, inr (inl (wait, clock, room, r, room′, inl (permille, c), refl, refl, refl)))
+evening-only (readsMonitor evening wait clock room r room′ c) =
+    inr (_, _, _, evening, inr (inl (wait, clock, room, r, room′, inr (inl c), refl, refl, refl)))
+evening-only (readsStatus evening wait clock room r room′ c) =
+    inr (_, _, _, evening, inr (inl (wait, clock, room, r, room′, inr (inr c), refl, refl, refl)))
+evening-only (opens evening what bytes clock room r room′ c) =
+    inr (_, _, _, evening, inr (inr (inl (what, bytes, clock, room, r, room′, c, refl, refl, refl))))
+evening-only (replies evening frame room r room′ box′ c told) =
+    inr (_, _, _, evening, inr (inr (inr (inl (frame, room, r, room′, c, told, refl, refl)))))
+evening-only (cancels evening theirs address clock r box′ c told) =
+    inr (_, _, _, evening, inr (inr (inr (inr (r, inl (theirs, address, clock, c), told, refl, refl)))))
+evening-only (expires evening clock r box′ c told) =
+    inr (_, _, _, evening, inr (inr (inr (inr (r, inr (clock, c), told, refl, refl)))))
+
 by-asking : {job unit : ℕ} {past : List Event} (r : AfterAsk) → Evening job unit (r .filters) (r .desk) (ofAsking (r .answer) ∷ past)
     → ((address n : ℕ) → r .answer ≡ Opened address n → Evening job unit (r .filters) (r .desk) (opened address ∷ past))
     × ((f : _) → r .answer ≡ Refused f → Evening job unit (r .filters) (r .desk) (nothing ∷ past))

@@ -97,7 +97,7 @@ pub use Rattle.varia.proofs.Laws.{refusals-tell-nothing, nothing-out-stays}
 pub use Rattle.varia.proofs.Laws.{display-fresh, display-kept, display-neither, moving-exactly}
 -- over any evening: what it knows of the edges, that at most one request for an edge is out, and the house rule
 pub use Rattle.evenings.proofs.Laws.{any-evening}
-pub use Rattle.evenings.proofs.Plainly.{begins-plainly, goes-on-set, goes-on-attenuate, goes-on-monitor, goes-on-status, goes-on-open, goes-on-reply, goes-on-cancel, goes-on-expire}
+pub use Rattle.evenings.proofs.Plainly.{begins-plainly, evening-only, goes-on-set, goes-on-attenuate, goes-on-monitor, goes-on-status, goes-on-open, goes-on-reply, goes-on-cancel, goes-on-expire}
 pub use Rattle.evenings.proofs.Plainly.{out-there, out-asked-only, out-elsewhere, out-once, known-plainly, known-by-one, known-otherwise, ack-replaces}
 pub use Rattle.evenings.proofs.Plainly.{short-known, long-known, known-in-order, out-stands, none-is-out}
 -- ---- 02, #113: who is on the line. The scan asks the next module, through the desk, and goes by what the desk answered
