@@ -334,38 +334,28 @@ module _ (room : List ℕ) (size n : ℕ) (right : Given room size n) where
                 ap (λ (x : List Setting). length (sheetOf x)) among-is
                 ∙ (longer at (setting h value) (held (take size room)) (omega (arith, k, w)) ∙ ap (λ (x : ℕ). x + 8 + length value) l)
 
+            -- with one record more to spare, the room alone decides
+            by-room : n < 128 → firstOf (addTests room (held (take size room)) (setting h value)) ≡ cond (ltb (length room) (size + 8 + length value)) (some NoRoom) none
+            by-room some-left =
+                let k = s .many in
+                let l = then-long in
+                rw (
+                  ← allowed,
+                  so,
+                  eq-eqb (length value) (lengthOf h) (exact ∙ measured),
+                  told,
+                  absent,
+                  lt-leb 128 (length (held (take size room))) (omega (arith, k, some-left)),
+                  l,
+                ) refl
+
             pub no-room : n < 128 → length room - size < 8 + length value → AddsTo (held (take size room)) room (setting h value) (Refused NoRoom) room
             no-room some-left short =
-                let k = s .many in
-                let l = then-long in
                 let w = s .within in
-                rw (
-                  ← allowed,
-                  so,
-                  eq-eqb (length value) (lengthOf h) (exact ∙ measured),
-                  told,
-                  absent,
-                  lt-leb 128 (length (held (take size room))) (omega (arith, k, some-left)),
-                  l,
-                  lt-ltb (length room) (size + 8 + length value) (omega (arith, short, w)),
-                ) (refl, refl)
-
-            none-refuses : n < 128 → 8 + length value ≤ length room - size → firstOf (addTests room (held (take size room)) (setting h value)) ≡ none
-            none-refuses some-left wide =
-                let k = s .many in
-                let l = then-long in
-                let w = s .within in
-                rw (
-                  ← allowed,
-                  so,
-                  eq-eqb (length value) (lengthOf h) (exact ∙ measured),
-                  told,
-                  absent,
-                  lt-leb 128 (length (held (take size room))) (omega (arith, k, some-left)),
-                  l,
-                  le-ltb (length room) (size + 8 + length value) (omega (arith, wide, w)),
-                ) refl
+                rw (by-room some-left, lt-ltb (length room) (size + 8 + length value) (omega (arith, short, w))) (refl, refl)
 
             pub added : (r : Editing) (room′ : List ℕ) → n < 128 → 8 + length value ≤ length room - size
                 → Edits none (putIn at (setting h value) (held (take size room))) room r room′ → AddsTo (held (take size room)) room (setting h value) r room′
-            added r room′ some-left wide p = rw (none-refuses some-left wide, among-is) p
+            added r room′ some-left wide p =
+                let w = s .within in
+                rw (by-room some-left, le-ltb (length room) (size + 8 + length value) (omega (arith, wide, w)), among-is) p

@@ -24,7 +24,8 @@ same-length c = search needs
 returns : tie.Need-returns
 returns c =
     let e = c .before .before .before .before .before .before .before in
-    add-wrong (e .args .room .now) (e .args .size) (e .args .head) (e .args .value .now) _ (wrong-sheet (e .args .room .now) (e .args .size) _ (sym (c .before .fault .given .1) ∙ c .before .before .before .judge .ensures))
+    add-wrong (e .args .room .now) (e .args .size) (e .args .head) (e .args .value .now) _
+    (wrong-sheet (e .args .room .now) (e .args .size) _ (sym (c .before .fault .given .1) ∙ c .before .before .before .judge .ensures))
 
 same-length-2 : tie.Need-same-length-2
 same-length-2 c = search needs
@@ -32,7 +33,9 @@ same-length-2 c = search needs
 returns-2 : tie.Need-returns-2
 returns-2 c =
     let e = c .before .before .before .before .before .before .before .before .before .before .before in
-    add-right (e .args .room .now) (e .args .size) (e .args .head) (e .args .value .now) _ _ (no-refusal (e .args .room .now) (e .args .size) _ (sym (c .before .before .before .before .before .n .given .1) ∙ c .before .before .before .before .before .before .before .judge .ensures)) (c .before .before .add-to .ensures)
+    add-right (e .args .room .now) (e .args .size) (e .args .head) (e .args .value .now) _ _
+    (no-refusal (e .args .room .now) (e .args .size) _ (sym (c .before .before .before .before .before .n .given .1) ∙ c .before .before .before .before .before .before .before .judge .ensures))
+    (c .before .before .add-to .ensures)
 
 pub add-spec : {M : Type 1} → statement M
 add-spec =

@@ -23,10 +23,16 @@ add-end : tie.Need-add-end
 add-end c = record { fits = let e = c .before in let f = few (e .args .room .now) (e .args .size) (e .args .n) (e .pre .0, e .pre .1, e .pre .2) in omega (arith, f) }
 
 start-of-requires : tie.Need-start-of-requires
-start-of-requires c κs = let e = c .before .before in let f = few (e .args .room .now) (e .args .size) (e .args .n) (e .pre .0, e .pre .1, e .pre .2) in (f .0, f .1, f .2)
+start-of-requires c κs =
+    let e = c .before .before in
+    let f = few (e .args .room .now) (e .args .size) (e .args .n) (e .pre .0, e .pre .1, e .pre .2) in
+    (f .0, f .1, f .2)
 
 start-of-requires-2 : tie.Need-start-of-requires-2
-start-of-requires-2 c κs = let e = c .before .before .before .before in let f = few (e .args .room .now) (e .args .size) (e .args .n) (e .pre .0, e .pre .1, e .pre .2) in (f .0, f .1, f .2)
+start-of-requires-2 c κs =
+    let e = c .before .before .before .before in
+    let f = few (e .args .room .now) (e .args .size) (e .args .n) (e .pre .0, e .pre .1, e .pre .2) in
+    (f .0, f .1, f .2)
 
 sub-left : tie.Need-sub-left
 sub-left c = search needs
@@ -59,19 +65,34 @@ move-within-requires : tie.Need-move-within-requires
 move-within-requires c κs = search needs
 
 add-move-within-4 : tie.Need-add-move-within-4
-add-move-within-4 c = record { fits = let f = numbers (c .before .before .before .before .before) in let g = c .before .before .before .before .before .before .before .before .before .before .good in omega (arith, f, g) }
+add-move-within-4 c =
+    let f = numbers (c .before .before .before .before .before) in
+    let g = c .before .before .before .before .before .before .before .before .before .before .good in
+    record { fits = omega (arith, f, g) }
 
 mul-move-within-4 : tie.Need-mul-move-within-4
-mul-move-within-4 c = record { fits = let f = numbers (c .before .before .before .before .before) in let g = c .before .before .before .before .before .before .before .before .before .before .good in omega (arith, f, g) }
+mul-move-within-4 c =
+    let f = numbers (c .before .before .before .before .before) in
+    let g = c .before .before .before .before .before .before .before .before .before .before .good in
+    record { fits = omega (arith, f, g) }
 
 add-move-within-5 : tie.Need-add-move-within-5
-add-move-within-5 c = record { fits = let f = numbers (c .before .before .before .before .before) in let g = c .before .before .before .before .before .before .before .before .before .before .good in omega (arith, f, g) }
+add-move-within-5 c =
+    let f = numbers (c .before .before .before .before .before) in
+    let g = c .before .before .before .before .before .before .before .before .before .before .good in
+    record { fits = omega (arith, f, g) }
 
 add-move-within-6 : tie.Need-add-move-within-6
-add-move-within-6 c = record { fits = let f = numbers (c .before .before .before .before .before) in let g = c .before .before .before .before .before .before .before .before .before .before .good in omega (arith, f, g) }
+add-move-within-6 c =
+    let f = numbers (c .before .before .before .before .before) in
+    let g = c .before .before .before .before .before .before .before .before .before .before .good in
+    record { fits = omega (arith, f, g) }
 
 add-move-within-7 : tie.Need-add-move-within-7
-add-move-within-7 c = record { fits = let f = numbers (c .before .before .before .before .before) in let g = c .before .before .before .before .before .before .before .before .before .before .good in omega (arith, f, g) }
+add-move-within-7 c =
+    let f = numbers (c .before .before .before .before .before) in
+    let g = c .before .before .before .before .before .before .before .before .before .before .good in
+    record { fits = omega (arith, f, g) }
 
 sub-move-within-2 : tie.Need-sub-move-within-2
 sub-move-within-2 c = let f = numbers (c .before .before .before .before .before) in omega (arith, f)
@@ -86,22 +107,37 @@ lay-again-requires : tie.Need-lay-again-requires
 lay-again-requires c κs = search needs
 
 mul-t10 : tie.Need-mul-t10
-mul-t10 c = record { fits = let f = numbers (c .before .before .before .before .before .before .before .before .before .before .before .before) in let g = c .before .before .before .before .before .before .before .before .before .before .before .before .before .before .before .before .before .good in omega (arith, f, g) }
+mul-t10 c =
+    let f = numbers (c .before .before .before .before .before .before .before .before .before .before .before .before) in
+    let g = c .before .before .before .before .before .before .before .before .before .before .before .before .before .before .before .before .before .good in
+    record { fits = omega (arith, f, g) }
 
 add-t18 : tie.Need-add-t18
-add-t18 c = record { fits = let f = numbers (c .before .before .before .before .before .before .before .before .before .before .before .before) in let g = c .before .before .before .before .before .before .before .before .before .before .before .before .before .before .before .before .before .good in omega (arith, f, g) }
+add-t18 c =
+    let f = numbers (c .before .before .before .before .before .before .before .before .before .before .before .before) in
+    let g = c .before .before .before .before .before .before .before .before .before .before .before .before .before .before .before .before .before .good in
+    record { fits = omega (arith, f, g) }
 
 add-t23 : tie.Need-add-t23
-add-t23 c = record { fits = let f = numbers (c .before .before .before .before .before .before .before .before .before .before .before .before) in let g = c .before .before .before .before .before .before .before .before .before .before .before .before .before .before .before .before .before .good in omega (arith, f, g) }
+add-t23 c =
+    let f = numbers (c .before .before .before .before .before .before .before .before .before .before .before .before) in
+    let g = c .before .before .before .before .before .before .before .before .before .before .before .before .before .before .before .before .before .good in
+    record { fits = omega (arith, f, g) }
 
 add-t19 : tie.Need-add-t19
-add-t19 c = record { fits = let f = numbers (c .before .before .before .before .before .before .before .before .before .before .before .before) in let g = c .before .before .before .before .before .before .before .before .before .before .before .before .before .before .before .before .before .good in omega (arith, f, g) }
+add-t19 c =
+    let f = numbers (c .before .before .before .before .before .before .before .before .before .before .before .before) in
+    let g = c .before .before .before .before .before .before .before .before .before .before .before .before .before .before .before .before .before .good in
+    record { fits = omega (arith, f, g) }
 
 sub-t20 : tie.Need-sub-t20
 sub-t20 c = let f = numbers (c .before .before .before .before .before .before .before .before .before .before .before .before) in omega (arith, f)
 
 add-t21 : tie.Need-add-t21
-add-t21 c = record { fits = let f = numbers (c .before .before .before .before .before .before .before .before .before .before .before .before) in let g = c .before .before .before .before .before .before .before .before .before .before .before .before .before .before .before .before .before .good in omega (arith, f, g) }
+add-t21 c =
+    let f = numbers (c .before .before .before .before .before .before .before .before .before .before .before .before) in
+    let g = c .before .before .before .before .before .before .before .before .before .before .before .before .before .before .before .before .before .good in
+    record { fits = omega (arith, f, g) }
 
 same-length : tie.Need-same-length
 same-length c = search needs
@@ -112,7 +148,8 @@ returns c =
     let e = s .before .before .before .before .before in
     cut-done (e .args .room .now) (e .args .size) (e .args .n) (e .pre .0, e .pre .1, e .pre .2) (e .args .from) (e .args .to) (s .before .before .start-of .result)
     (s .start-of2 .result) (e .pre .3) (e .pre .4) (s .before .before .start-of .ensures) (s .start-of2 .ensures) _ _ _
-    (c .before .before .before .before .before .before .before .before .before .before .move-within .ensures) (c .before .before .before .before .before .before .move-within2 .ensures) (c .before .before .lay-again .ensures)
+    (c .before .before .before .before .before .before .before .before .before .before .move-within .ensures)
+    (c .before .before .before .before .before .before .move-within2 .ensures) (c .before .before .lay-again .ensures)
 
 pub cut-spec : {M : Type 1} → statement M
 cut-spec =

@@ -27,12 +27,14 @@ head-at-requires c κs = search needs
 returns-2 : tie.Need-returns-2
 returns-2 c =
     let a = c .before .before .before .before .before .before .before .args in
-    other-module (a .room .now) (a .n) (a .at) _ (a .head) (c .before .before .before .before .before .if1 .left) (c .before .before .before .head-at .ensures) (c .if2 .taken)
+    other-module (a .room .now) (a .n) (a .at) _ (a .head) (c .before .before .before .before .before .if1 .left)
+    (c .before .before .before .head-at .ensures) (c .if2 .taken)
 
 returns-3 : tie.Need-returns-3
 returns-3 c =
     let a = c .before .before .before .before .before .before .before .before .before .args in
-    same-module (a .room .now) (a .n) (a .at) _ (a .head) (c .before .before .before .before .before .before .before .if1 .left) (c .before .before .before .before .before .head-at .ensures) (c .before .before .if2 .left)
+    same-module (a .room .now) (a .n) (a .at) _ (a .head) (c .before .before .before .before .before .before .before .if1 .left)
+    (c .before .before .before .before .before .head-at .ensures) (c .before .before .if2 .left)
 
 pub is-there-spec : {M : Type 1} → statement M
 is-there-spec =

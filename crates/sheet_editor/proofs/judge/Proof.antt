@@ -27,7 +27,8 @@ enum-known-n c = search needs
 returns-2 : tie.Need-returns-2
 returns-2 c =
     let a = c .before .before .before .before .before .before .before .args in
-    judge-wrong (a .room .now) (a .size) _ _ (c .before .before .before .before .before .if1 .left) (c .before .before .before .check .ensures) (c .before .wrong .given .1)
+    judge-wrong (a .room .now) (a .size) _ _ (c .before .before .before .before .before .if1 .left) (c .before .before .before .check .ensures)
+    (c .before .wrong .given .1)
 
 returns-3 : tie.Need-returns-3
 returns-3 c =

@@ -23,7 +23,10 @@ add-end : tie.Need-add-end
 add-end c = search needs
 
 start-of-requires : tie.Need-start-of-requires
-start-of-requires c κs = let e = c .before .before .before in let f = few (e .args .room .now) (e .args .size) (e .args .n) (e .pre .0, e .pre .1, e .pre .2) in (f .0, f .1, f .2)
+start-of-requires c κs =
+    let e = c .before .before .before in
+    let f = few (e .args .room .now) (e .args .size) (e .args .n) (e .pre .0, e .pre .1, e .pre .2) in
+    (f .0, f .1, f .2)
 
 mul-row : tie.Need-mul-row
 mul-row c = search needs
@@ -56,7 +59,10 @@ add-move-within-4 : tie.Need-add-move-within-4
 add-move-within-4 c = search needs
 
 add-move-within-5 : tie.Need-add-move-within-5
-add-move-within-5 c = record { fits = let f = numbers (c .before .before .before .before .before) in let g = c .before .before .before .before .before .before .before .before .before .good in omega (arith, f, g) }
+add-move-within-5 c =
+    let f = numbers (c .before .before .before .before .before) in
+    let g = c .before .before .before .before .before .before .before .before .before .good in
+    record { fits = omega (arith, f, g) }
 
 sub-move-within-2 : tie.Need-sub-move-within-2
 sub-move-within-2 c = search needs
@@ -97,7 +103,10 @@ returns c =
     let e = s .before .before .before .before in
     put-done (e .args .room .now) (e .args .size) (e .args .n) (e .pre .0, e .pre .1, e .pre .2) (e .args .at) (s .start-of .result) (e .pre .3) (s .start-of .ensures)
     (e .args .head) (e .args .value .now) (e .pre .6) (e .pre .5) _ _ _ _ _
-    (c .before .before .before .before .before .before .before .before .before .before .before .before .before .before .before .before .before .before .before .move-within .ensures) (c .before .before .before .before .before .before .before .before .before .before .before .before .before .before .before .move-within2 .ensures) (c .before .before .before .before .before .before .before .before .before .before .lay-at .ensures) (c .before .before .before .before .before .before .lay-at2 .ensures) (c .before .before .lay-again .ensures)
+    (c .before .before .before .before .before .before .before .before .before .before .before .before .before .before .before .before .before .before .before .move-within .ensures)
+    (c .before .before .before .before .before .before .before .before .before .before .before .before .before .before .before .move-within2 .ensures)
+    (c .before .before .before .before .before .before .before .before .before .before .lay-at .ensures)
+    (c .before .before .before .before .before .before .lay-at2 .ensures) (c .before .before .lay-again .ensures)
 
 pub put-spec : {M : Type 1} → statement M
 put-spec =

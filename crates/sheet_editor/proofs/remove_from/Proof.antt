@@ -18,7 +18,8 @@ same-length c = search needs
 returns-2 : tie.Need-returns-2
 returns-2 c =
     let e = c .before .before .before .before .before .before in
-    remove-one (e .args .room .now) (e .args .size) (e .args .n) (e .pre) (e .args .index) _ _ (c .before .before .before .before .if1 .left) (c .before .before .cut .ensures)
+    remove-one (e .args .room .now) (e .args .size) (e .args .n) (e .pre) (e .args .index) _ _ (c .before .before .before .before .if1 .left)
+    (c .before .before .cut .ensures)
 
 pub remove-from-spec : {M : Type 1} → statement M
 remove-from-spec = tie.close (tie.spec returns add-cut cut-requires same-length returns-2)

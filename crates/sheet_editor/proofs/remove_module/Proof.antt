@@ -24,7 +24,8 @@ same-length c = search needs
 returns : tie.Need-returns
 returns c =
     let e = c .before .before .before .before .before .before in
-    module-wrong (e .args .room .now) (e .args .size) (e .args .unit) _ (wrong-sheet (e .args .room .now) (e .args .size) _ (sym (c .before .fault .given .1) ∙ c .before .before .before .judge .ensures))
+    module-wrong (e .args .room .now) (e .args .size) (e .args .unit) _
+    (wrong-sheet (e .args .room .now) (e .args .size) _ (sym (c .before .fault .given .1) ∙ c .before .before .before .judge .ensures))
 
 same-length-2 : tie.Need-same-length-2
 same-length-2 c = search needs
@@ -32,7 +33,9 @@ same-length-2 c = search needs
 returns-2 : tie.Need-returns-2
 returns-2 c =
     let e = c .before .before .before .before .before .before .before .before .before .before in
-    module-right (e .args .room .now) (e .args .size) (e .args .unit) _ _ (no-refusal (e .args .room .now) (e .args .size) _ (sym (c .before .before .before .before .before .n .given .1) ∙ c .before .before .before .before .before .before .before .judge .ensures)) (c .before .before .remove-module-from .ensures)
+    module-right (e .args .room .now) (e .args .size) (e .args .unit) _ _
+    (no-refusal (e .args .room .now) (e .args .size) _ (sym (c .before .before .before .before .before .n .given .1) ∙ c .before .before .before .before .before .before .before .judge .ensures))
+    (c .before .before .remove-module-from .ensures)
 
 pub remove-module-spec : {M : Type 1} → statement M
 remove-module-spec =

@@ -22,13 +22,17 @@ same-length c = search needs
 returns-2 : tie.Need-returns-2
 returns-2 c =
     let e = c .before .before .before .before .before .before .before in
-    module-absent (e .args .room .now) (e .args .size) (e .args .n) (e .pre) (e .args .unit) (c .before .before .before .first-of .result) (c .before .first-of2 .result) (c .before .before .before .first-of .ensures) (c .before .first-of2 .ensures) (c .if2 .taken)
+    module-absent (e .args .room .now) (e .args .size) (e .args .n) (e .pre) (e .args .unit) (c .before .before .before .first-of .result)
+    (c .before .first-of2 .result) (c .before .before .before .first-of .ensures) (c .before .first-of2 .ensures) (c .if2 .taken)
 
 cut-requires : tie.Need-cut-requires
 cut-requires c κs =
     let e = c .before .before .before .before .before .before .before .before in
     let apart = c .before .if2 .left in
-    (e .pre .0, e .pre .1, e .pre .2, omega (arith, apart), module-within (e .args .room .now) (e .args .size) (e .args .n) (e .pre) (e .args .unit) (c .before .before .before .before .first-of .result) (c .before .before .first-of2 .result) (c .before .before .before .before .first-of .ensures) (c .before .before .first-of2 .ensures))
+    let first = c .before .before .before .before .first-of in
+    let past = c .before .before .first-of2 in
+    let within = module-within (e .args .room .now) (e .args .size) (e .args .n) (e .pre) (e .args .unit) (first .result) (past .result) (first .ensures) (past .ensures) in
+    (e .pre .0, e .pre .1, e .pre .2, omega (arith, apart), within)
 
 same-length-2 : tie.Need-same-length-2
 same-length-2 c = search needs
@@ -36,7 +40,10 @@ same-length-2 c = search needs
 returns-3 : tie.Need-returns-3
 returns-3 c =
     let e = c .before .before .before .before .before .before .before .before .before .before .before in
-    module-gone (e .args .room .now) (e .args .size) (e .args .n) (e .pre) (e .args .unit) (c .before .before .before .before .before .before .before .first-of .result) (c .before .before .before .before .before .first-of2 .result) (c .before .before .before .before .before .before .before .first-of .ensures) (c .before .before .before .before .before .first-of2 .ensures) _ _ (c .before .before .before .before .if2 .left) (c .before .before .cut .ensures)
+    module-gone (e .args .room .now) (e .args .size) (e .args .n) (e .pre) (e .args .unit)
+    (c .before .before .before .before .before .before .before .first-of .result) (c .before .before .before .before .before .first-of2 .result)
+    (c .before .before .before .before .before .before .before .first-of .ensures) (c .before .before .before .before .before .first-of2 .ensures) _
+    _ (c .before .before .before .before .if2 .left) (c .before .before .cut .ensures)
 
 pub remove-module-from-spec : {M : Type 1} → statement M
 remove-module-from-spec =
