@@ -13,6 +13,7 @@ pub use request::take;
 ghost use Rattle.bench.specs.Register.{Numbers, Places};
 
 // The first `count` registers are held.
+#[repr(C)]
 pub struct Bench {
     pub address: u8,
     pub count: u8,

@@ -5,6 +5,7 @@ ghost use mathlib.Core.Path.{_≡_};
 ghost use Prim.Native.Nat.{_<_};
 
 // A register of a bench. The value is the number that its bytes are, lowest first.
+#[repr(C)]
 pub struct Register {
     pub number: u8,
     pub kind: u8,

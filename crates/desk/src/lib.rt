@@ -19,6 +19,7 @@ ghost use lib.ListN.{length};
 // A ticket for each host address, 161 to 255, at the place that is the address less 161. The turn
 // is such a place too. A place is marked while it holds a ticket: the mark decides, and in each desk
 // that calls made the ticket's own `live` says the same.
+#[repr(C)]
 pub struct Desk {
     pub turn: u8,
     pub tickets: [Ticket; 95],

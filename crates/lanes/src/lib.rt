@@ -16,6 +16,7 @@ ghost use Prim.Native.Nat.{_≤_, _<_};
 ghost use lib.ListN.{length};
 
 // A request that waits, and its data: the first `size` of the bytes, the others are zero.
+#[repr(C)]
 pub struct Waiting {
     pub asked: Request,
     pub size: u8,
@@ -24,12 +25,14 @@ pub struct Waiting {
 
 // The first `size` of these requests wait, the oldest first, and the lane belongs to their job. The
 // other places are zero. An empty lane belongs to nobody.
+#[repr(C)]
 pub struct Lane {
     pub size: u8,
     pub waiting: [Waiting; 4],
 }
 
 // Lane n, from 1 to 16, stands at the place n less 1; `last` is the place of the lane last served.
+#[repr(C)]
 pub struct Lanes {
     pub last: u8,
     pub lanes: [Lane; 16],

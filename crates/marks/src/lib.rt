@@ -4,6 +4,7 @@ ghost use Rattle.marks.specs.Marks.{Begins, TellsMarked, Changes, Runs, 
 ghost use mathlib.Core.Path.{_≡_};
 ghost use Prim.Native.Nat.{_<_};
 
+#[repr(C)]
 pub struct Marks {
     pub low: u64,
     pub high: u64,

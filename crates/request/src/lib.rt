@@ -11,6 +11,7 @@ ghost use mathlib.Core.Path.{_≡_};
 // What a job asks of a module, but for the data: `unit` is the module, `sort` the type of the
 // telegram, `wait` how long its reply is waited for, in milliseconds, `folder` where the job files
 // what comes, 0 for nowhere.
+#[repr(C)]
 pub struct Request {
     pub job: u32,
     pub unit: u8,

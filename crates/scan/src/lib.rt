@@ -29,6 +29,7 @@ const WAIT: u32 = 100;
 
 // A scan so far, for a job. It learns what became of its ticket only by what the desk answers, so every
 // booked, cancelled and expired ticket is told to it, whoever made that call.
+#[repr(C)]
 pub struct Scan {
     pub job: u32,
     // how many turns are over: the module after these is asked next

@@ -11,6 +11,7 @@ pub const ROW: usize = 8;
 pub const MOST: usize = 128;
 
 // What a row begins with: of which register the value is, and what value it is.
+#[repr(C)]
 pub struct Head {
     pub unit: u8,
     pub register: u8,

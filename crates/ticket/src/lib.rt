@@ -14,6 +14,7 @@ ghost use mathlib.Core.Path.{_≡_};
 
 // A ticket is live while it is open. Of one that was cancelled or expired is kept that it was, and
 // when, until the address is given out again; all else is zero.
+#[repr(C)]
 pub struct Ticket {
     pub live: bool,
     pub asked: Request,
