@@ -70,7 +70,7 @@ gives-step-settled r t chunk = settled-with _ _
 -- ---- nothing is cut
 
 -- a kind over 7 is no kind, however great
-no-size : (kind : ℕ) → 7 < kind → sizeOf kind ≡ 0
+pub no-size : (kind : ℕ) → 7 < kind → sizeOf kind ≡ 0
 unfolding sizeOf
 no-size kind h = List·getD-eq-default sizes 0 {n = kind} (omega arith)
 

@@ -1,1 +1,9 @@
 pub mod Host
+pub mod Told
+pub mod Desk
+pub mod Values
+pub mod Lanes
+pub mod Filters
+pub mod Scan
+pub mod Bench
+pub mod Sheet

@@ -1,5 +1,14 @@
-// What the C capture host calls; include/kamzhor.h is its side of this file. Each call is thin
-// over a proved function and passes that function's promise on: specs/Host.antt says how.
+// What a host in C calls; include/kamzhor.h is its side of this crate. Each call is thin over a
+// proved function and passes that function's promise on: specs/ says how. The remainder, the readers
+// and the receiver stand here, each other part of the library in a module of its own.
+mod host_bench;
+mod host_box;
+mod host_desk;
+mod host_lanes;
+mod host_scan;
+mod host_sheet;
+mod host_values;
+
 use receiver::Receiver;
 use tally::Tally;
 ghost use Rattle.kamzhor.specs.Host.{GivesRemainder, GivesFrame, GivesValue, GivesReceiver, GivesStep};

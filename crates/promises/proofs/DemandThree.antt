@@ -24,8 +24,12 @@ use Rattle.desk.specs.declared.Desk.{Desk}
 use Rattle.desk.specs.declared.Fault.the-variants as refusal
 use Rattle.desk.specs.declared.Booking.the-variants as booking
 use Rattle.desk.specs.declared.AfterReply.{AfterReply}
+use Rattle.kamzhor.specs.Bench.{GivesTake, takeNumber}
+use Rattle.kamzhor.specs.Desk.{GivesReply, replyNumber}
 use Rattle.kamzhor.specs.Host.{frameNumber, GivesFrame}
 use Rattle.kamzhor.specs.declared.FrameAnswer.{FrameAnswer}
+use Rattle.kamzhor.specs.declared.host_bench.AfterBenchTake.{AfterBenchTake}
+use Rattle.kamzhor.specs.declared.host_desk.AfterDeskReply.{AfterDeskReply}
 use Rattle.promises.proofs.Noise.{nearby-noise}
 -- ---- "The check is the polynomial remainder of that description": every byte string has one, and it is the one that is worked out
 pub use Rattle.remainder.proofs.Laws.{is-remainder, only-remainder, empty-remainder, whole, sealed-right}
@@ -64,3 +68,12 @@ module _ (frame : List ℕ) (offered : ℕ) (t : Fields) (accepted : readFrame f
   pub bench-unchanged : (bench : Bench) (room : List ℕ) (r : AfterTake) (room′ : List ℕ) → Takes bench (framed m) room r room′
       → (r .answer ≡ Silent (silence.Unread CheckFault)) × (r .bench ≡ bench) × (room′ ≡ room)
   bench-unchanged = nearby-noise frame offered t accepted m altered .bench
+
+  -- in C too, of any desk and any bench
+  pub host-desk-unchanged : (desk : Desk) (room : List ℕ) (r : AfterDeskReply) (room′ : List ℕ) → 240 ≤ length room → GivesReply desk (framed m) room r room′
+      → (r .answer ≡ replyNumber 7 0) × (r .desk ≡ desk) × (room′ ≡ room)
+  host-desk-unchanged = nearby-noise frame offered t accepted m altered .host-desk
+
+  pub host-bench-unchanged : (bench : Bench) (room : List ℕ) (r : AfterBenchTake) (room′ : List ℕ) → GivesTake bench (framed m) room r room′
+      → (r .answer ≡ takeNumber 7 0) × (r .bench ≡ bench) × (room′ ≡ room)
+  host-bench-unchanged = nearby-noise frame offered t accepted m altered .host-bench

@@ -2,7 +2,7 @@
 -- written reads back the same, given room for its data, no start or end byte stands inside a frame, and only that frame means that message.
 -- A reply closes exactly the ticket open on its host address, and only where module, reply kind and register fit it."
 -- Assumes nothing.
-use mathlib.Core.Path.{_≡_, _∙_}
+use mathlib.Core.Path.{_≡_, sym, ap, _∙_, subst}
 use mathlib.Core.List.{List}
 use mathlib.Core.Option.{none}
 use Prim.Native.Nat.{ℕ}
@@ -24,6 +24,8 @@ use Rattle.ticket.specs.declared.Ticket.{Ticket}
 use Rattle.desk.specs.declared.Desk.{Desk}
 use Rattle.desk.specs.declared.Booking.the-variants.{Booked}
 use Rattle.desk.specs.declared.AfterReply.{AfterReply}
+use Rattle.kamzhor.specs.Desk.{GivesReply, replyGiven}
+use Rattle.kamzhor.specs.declared.host_desk.AfterDeskReply.{AfterDeskReply}
 -- ---- "Every message written reads back the same, given room for its data", and what was accepted writes again to that very frame
 pub use Rattle.telegram.proofs.Laws.{reads-back, written-again}
 -- "no start or end byte stands inside a frame"
@@ -152,3 +154,29 @@ fitting-booked desk frame room r room′ replies t read live unit kind register 
     let none-of : replyRefusal desk frame (length room) ≡ none = rw (told .0, ← told .1, fits) in
     let closing : r .desk ≡ answeredOn desk (t .destination) = replies .1 ∙ rw (none-of, ← told .1) in
     (replies .0 ∙ rw (none-of, ← told .1), rw closing (answers-alone desk (t .destination) live), replies .2 ∙ rw none-of)
+
+-- the same in C's numbers
+pub host-fitting-booked : (desk : Desk) (frame room : List ℕ) (r : AfterDeskReply) (room′ : List ℕ) → GivesReply desk frame room r room′
+    → (t : Fields) → readFrame frame (length room) ≡ Telegram t
+    → OpenOn desk (t .destination)
+    → t .source ≡ ticketOn desk (t .destination) .asked .unit
+    → KindFits (ticketOn desk (t .destination) .asked .sort) (t .sort)
+    → RegisterFits (ticketOn desk (t .destination) .asked .register) (t .sort) (t .register)
+    → (r .answer
+    ≡ record {
+      refusal = 0;
+      job = ticketOn desk (t .destination) .asked .job;
+      folder = ticketOn desk (t .destination) .asked .folder;
+      address = t .destination;
+      sort = t .sort;
+      size = t .size;
+      place = 0;
+    })
+    × ClosedAlone desk (t .destination) noTicket (r .desk)
+    × (room′ ≡ over (dataIn frame) room)
+host-fitting-booked desk frame room r room′ g t read live unit kind register =
+    let b = fitting-booked desk frame room (g .0) room′ (g .1) t read live unit kind register in (
+      ap (λ (a : AfterDeskReply). a .answer) (g .2) ∙ ap replyGiven (b .0),
+      subst (ClosedAlone desk (t .destination) noTicket) (sym (ap (λ (a : AfterDeskReply). a .desk) (g .2))) (b .1),
+      b .2,
+    )

@@ -35,8 +35,12 @@ use Rattle.desk.specs.declared.Booking.the-variants as booking
 use Rattle.desk.specs.declared.Desk.{Desk}
 use Rattle.desk.specs.declared.Fault.the-variants as refusal
 use Rattle.kamzhor.proofs.Laws.{frame-as-read}
+use Rattle.kamzhor.specs.Bench.{GivesTake, takeNumber, takeGiven}
+use Rattle.kamzhor.specs.Desk.{GivesReply, replyNumber, replyGiven}
 use Rattle.kamzhor.specs.Host.{frameNumber, frameGiven, GivesFrame}
 use Rattle.kamzhor.specs.declared.FrameAnswer.{FrameAnswer}
+use Rattle.kamzhor.specs.declared.host_bench.AfterBenchTake.{AfterBenchTake}
+use Rattle.kamzhor.specs.declared.host_desk.AfterDeskReply.{AfterDeskReply}
 use Rattle.promises.specs.Noise.{CheckFaultFor}
 -- ---- "altered in an odd number of bits": in how many places two lists of bits differ, place by place; one altered bit is such an alteration, and
 -- three are
@@ -60,7 +64,11 @@ pub said-out : (m : List ℕ) → CheckFaultFor m
     → (r .answer ≡ booking.Refused (refusal.Unread CheckFault)) × (r .desk ≡ desk) × (room′ ≡ room))
     × ((bench : Bench) (room : List ℕ) (r : AfterTake) (room′ : List ℕ) → Takes bench (framed m) room r room′
     → (r .answer ≡ Silent (silence.Unread CheckFault)) × (r .bench ≡ bench) × (room′ ≡ room))
-said-out m s = (s .reader, s .host, s .desk, s .bench)
+    × ((desk : Desk) (room : List ℕ) (r : AfterDeskReply) (room′ : List ℕ) → 240 ≤ length room → GivesReply desk (framed m) room r room′
+    → (r .answer ≡ replyNumber 7 0) × (r .desk ≡ desk) × (room′ ≡ room))
+    × ((bench : Bench) (room : List ℕ) (r : AfterBenchTake) (room′ : List ℕ) → GivesTake bench (framed m) room r room′
+    → (r .answer ≡ takeNumber 7 0) × (r .bench ≡ bench) × (room′ ≡ room))
+said-out m s = (s .reader, s .host, s .desk, s .bench, s .host-desk, s .host-bench)
 
 -- ---- "any accepted message"
 
@@ -77,6 +85,18 @@ module _ (frame : List ℕ) (offered : ℕ) (t : Fields) (accepted : readFrame f
             (told .0 ∙ ap frameGiven (read .0), told .1 ∙ read .1);
         desk = altered-reply frame offered t accepted m same odd;
         bench = λ bench room r room′ takes. altered-silent frame offered t accepted m same odd bench room takes;
+        host-desk = λ desk room r room′ wide gives.
+            let kept = altered-reply frame offered t accepted m same odd desk room (gives .0) room′ wide (gives .1) in (
+              ap (λ (a : AfterDeskReply). a .answer) (gives .2) ∙ ap replyGiven (kept .0),
+              ap (λ (a : AfterDeskReply). a .desk) (gives .2) ∙ kept .1,
+              kept .2,
+            );
+        host-bench = λ bench room r room′ gives.
+            let kept = altered-silent frame offered t accepted m same odd bench room (gives .1) in (
+              ap (λ (a : AfterBenchTake). a .answer) (gives .2) ∙ ap takeGiven (kept .0),
+              ap (λ (a : AfterBenchTake). a .bench) (gives .2) ∙ kept .1,
+              kept .2,
+            );
       }
     where
       seven : (room : List ℕ) (a : Reading) (room′ : List ℕ) → 240 ≤ length room → Reads (framed m) room a room′

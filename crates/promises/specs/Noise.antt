@@ -20,8 +20,12 @@ use Rattle.desk.specs.declared.AfterReply.{AfterReply}
 use Rattle.desk.specs.declared.Booking.the-variants as booking
 use Rattle.desk.specs.declared.Desk.{Desk}
 use Rattle.desk.specs.declared.Fault.the-variants as refusal
+use Rattle.kamzhor.specs.Bench.{GivesTake, takeNumber}
+use Rattle.kamzhor.specs.Desk.{GivesReply, replyNumber}
 use Rattle.kamzhor.specs.Host.{frameNumber, GivesFrame}
 use Rattle.kamzhor.specs.declared.FrameAnswer.{FrameAnswer}
+use Rattle.kamzhor.specs.declared.host_bench.AfterBenchTake.{AfterBenchTake}
+use Rattle.kamzhor.specs.declared.host_desk.AfterDeskReply.{AfterDeskReply}
 
 -- the message m, framed, is refused as a check fault wherever it is offered, and changes nothing there
 pub record CheckFaultFor (m : List ℕ) : Type 0 where
@@ -37,3 +41,8 @@ pub record CheckFaultFor (m : List ℕ) : Type 0 where
   -- "and changes no register": the whole bench stays, and there is no answer, with any reply buffer
   pub bench : (b : Bench) (room : List ℕ) (r : AfterTake) (room′ : List ℕ) → Takes b (framed m) room r room′
       → (r .answer ≡ Silent (silence.Unread CheckFault)) × (r .bench ≡ b) × (room′ ≡ room)
+  -- in C too, of a desk and of a bench: number 7, every other field is 0, and desk or bench and the lent buffer stay
+  pub host-desk : (d : Desk) (room : List ℕ) (r : AfterDeskReply) (room′ : List ℕ) → 240 ≤ length room → GivesReply d (framed m) room r room′
+      → (r .answer ≡ replyNumber 7 0) × (r .desk ≡ d) × (room′ ≡ room)
+  pub host-bench : (b : Bench) (room : List ℕ) (r : AfterBenchTake) (room′ : List ℕ) → GivesTake b (framed m) room r room′
+      → (r .answer ≡ takeNumber 7 0) × (r .bench ≡ b) × (room′ ≡ room)

@@ -1,0 +1,1 @@
+// What a C host is promised, by the calls of `kamzhor`: definitions and laws only, no code.
