@@ -1,10 +1,11 @@
-/* Every constant of include/kamzhor.h with the number that the paper has for it, typed in from there; the kinds of a line
- * are the library's own. tests/host/host.c and host.cc ask the compiler whether they are equal; tests/host/symbols.py
+/* Every constant of include/kamzhor.h with the number that the papers have for it, typed in from there; those at the end are
+ * the library's own. tests/host/host.c and host.cc ask the compiler whether they are equal; tests/host/symbols.py
  * whether the header has these and no others. */
 #ifndef CONSTANTS_H
 #define CONSTANTS_H
 
 #define CONSTANTS(IS) \
+    /* 01, the table of numbers */ \
     IS(KAMZHOR_DONE, 0) \
     IS(KAMZHOR_NOT_FRAMED, 1) \
     IS(KAMZHOR_STRAY_END, 2) \
@@ -15,11 +16,61 @@
     IS(KAMZHOR_CHECK_FAULT, 7) \
     IS(KAMZHOR_ZERO_ADDRESS, 8) \
     IS(KAMZHOR_UNKNOWN_TYPE, 9) \
+    IS(KAMZHOR_NO_JOB, 10) \
+    IS(KAMZHOR_NOT_A_MODULE, 11) \
+    IS(KAMZHOR_NOT_A_REQUEST, 12) \
+    IS(KAMZHOR_WRONG_DATA, 13) \
+    IS(KAMZHOR_WRONG_WAIT, 14) \
+    IS(KAMZHOR_NONE_FREE, 15) \
+    IS(KAMZHOR_SHORT_ROOM, 16) \
+    IS(KAMZHOR_NO_TICKET, 17) \
+    IS(KAMZHOR_OTHER_MODULE, 18) \
+    IS(KAMZHOR_OTHER_KIND, 19) \
+    IS(KAMZHOR_OTHER_REGISTER, 20) \
+    IS(KAMZHOR_NOT_THEIRS, 21) \
+    IS(KAMZHOR_NOTHING_DUE, 22) \
+    IS(KAMZHOR_BENCH_KIND, 30) \
+    IS(KAMZHOR_BENCH_RIGHTS, 31) \
+    IS(KAMZHOR_BENCH_ALREADY_THERE, 32) \
+    IS(KAMZHOR_BENCH_FULL, 33) \
+    IS(KAMZHOR_BENCH_ADDRESS, 34) \
+    IS(KAMZHOR_OTHER_ADDRESS, 35) \
+    IS(KAMZHOR_BENCH_NO_REQUEST, 36) \
+    IS(KAMZHOR_BENCH_SHORT_ROOM, 37) \
+    IS(KAMZHOR_NOT_HELD, 38) \
     IS(KAMZHOR_UNKNOWN_KIND, 40) \
     IS(KAMZHOR_WRONG_LENGTH, 41) \
     IS(KAMZHOR_NO_SUCH_ELEMENT, 42) \
+    IS(KAMZHOR_DOES_NOT_FIT, 43) \
+    IS(KAMZHOR_SHORT_BUFFER, 44) \
+    IS(KAMZHOR_NO_SUCH_ROW, 50) \
+    /* 02: #101, #102, #104, #106, #109, #110, #113, #114 */ \
     IS(KAMZHOR_PAST_LARGEST, 60) \
+    IS(KAMZHOR_TICKET_WITHDRAWN, 61) \
+    IS(KAMZHOR_EDGE_OUT, 59) \
+    IS(KAMZHOR_TOO_MUCH, 62) \
+    IS(KAMZHOR_OUT_OF_ORDER, 63) \
+    IS(KAMZHOR_NEITHER, 64) \
+    IS(KAMZHOR_SHORT_SHEET, 65) \
+    IS(KAMZHOR_OTHER_VERSION, 66) \
+    IS(KAMZHOR_WRONG_HEADER, 67) \
+    IS(KAMZHOR_RECORD_ORDER, 68) \
+    IS(KAMZHOR_RECORD_REFUSED, 69) \
+    IS(KAMZHOR_WRONG_PLACES, 70) \
+    IS(KAMZHOR_NO_SUCH_RECORD, 56) \
+    IS(KAMZHOR_SHEET_NO_ROOM, 57) \
+    IS(KAMZHOR_TOO_MANY, 79) \
+    IS(KAMZHOR_NO_LANE_FREE, 71) \
+    IS(KAMZHOR_LANE_FULL, 72) \
+    IS(KAMZHOR_GRANT_ROOM, 73) \
+    IS(KAMZHOR_NOTHING_WAITING, 74) \
+    IS(KAMZHOR_NO_SUCH_REQUEST, 55) \
+    IS(KAMZHOR_FOLDER_HELD, 75) \
     IS(KAMZHOR_TALLY_FULL, 76) \
+    IS(KAMZHOR_SHEET_ROOM, 80) \
+    IS(KAMZHOR_NOTHING_TO_REMOVE, 77) \
+    IS(KAMZHOR_SETTING_THERE, 78) \
+    /* 01: types, kinds, rights */ \
     IS(KAMZHOR_NACK, 0) \
     IS(KAMZHOR_CHECK_ERROR, 1) \
     IS(KAMZHOR_BUSY, 2) \
@@ -37,12 +88,35 @@
     IS(KAMZHOR_U32, 5) \
     IS(KAMZHOR_I32, 6) \
     IS(KAMZHOR_U64, 7) \
+    IS(KAMZHOR_MAY_READ, 1) \
+    IS(KAMZHOR_MAY_WRITE, 2) \
+    IS(KAMZHOR_MAY_CHANGE, 4) \
+    /* 01: 240 data bytes, telegrams of at most 494, hosts 161 to 255, 95 of them; 02's #106: 12 + 128 * (8 + 240) bytes */ \
+    IS(KAMZHOR_MOST_DATA, 240) \
+    IS(KAMZHOR_MOST_KEPT, 494) \
+    IS(KAMZHOR_FIRST_HOST, 161) \
+    IS(KAMZHOR_LAST_HOST, 255) \
+    IS(KAMZHOR_HOSTS, 95) \
+    IS(KAMZHOR_MOST_SHEET, 31756) \
+    IS(KAMZHOR_MOST_RECORDS, 128) \
+    /* 02's #113: 1 for a datagram, 2 for nack, check error or busy; the others are the library's own */ \
+    IS(KAMZHOR_FOUND_ABSENT, 0) \
+    IS(KAMZHOR_FOUND_DATAGRAM, 1) \
+    IS(KAMZHOR_FOUND_OTHER, 2) \
+    IS(KAMZHOR_FOUND_NOT_YET, 3) \
+    /* the library's own */ \
     IS(KAMZHOR_NO_LINE, 0) \
     IS(KAMZHOR_LINE_OK, 1) \
     IS(KAMZHOR_LINE_REFUSED, 2) \
     IS(KAMZHOR_LINE_DROPPED, 3) \
-    IS(KAMZHOR_MOST_DATA, 240) \
-    IS(KAMZHOR_MOST_KEPT, 494)
+    IS(KAMZHOR_SEEN_NOTHING, 0) \
+    IS(KAMZHOR_SEEN_OPEN, 1) \
+    IS(KAMZHOR_SEEN_WITHDRAWN, 2) \
+    IS(KAMZHOR_DISPLAY_FRESH, 1) \
+    IS(KAMZHOR_DISPLAY_KEPT, 2) \
+    IS(KAMZHOR_SCAN_ASKED, 1) \
+    IS(KAMZHOR_SCAN_WAITING, 2) \
+    IS(KAMZHOR_SCAN_DONE, 3)
 
 #define AS_IN_THE_PAPER(name, number) typedef char name##_is_##number[(name) == (number) ? 1 : -1];
 CONSTANTS(AS_IN_THE_PAPER)

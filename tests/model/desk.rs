@@ -74,6 +74,15 @@ pub fn age(clock: u32, then: u32) -> u32 {
     (i64::from(clock) - i64::from(then)).rem_euclid(4294967296) as u32
 }
 
+/// The host address after this one, with 161 after 255.
+pub fn after(address: u8) -> u8 {
+    if address == LAST_HOST {
+        FIRST_HOST
+    } else {
+        address + 1
+    }
+}
+
 /// One of opening's numbers, with how many addresses were considered.
 fn counted(no: No, count: usize) -> Refusal {
     Refusal { count: Some(count), ..no.into() }
@@ -187,7 +196,7 @@ impl Desk {
         lowest(&[(16, telegram.len() > room)]).map_err(|no| counted(no, count))?;
         self.tickets.insert(address, request.ticket());
         self.closed.remove(&address);
-        self.turn = if address == LAST_HOST { FIRST_HOST } else { address + 1 };
+        self.turn = after(address);
         Ok(Opened { address, telegram, count })
     }
 

@@ -20,6 +20,7 @@ mod filters;
 mod flips;
 mod folders;
 mod holders;
+mod lab;
 mod lanes;
 mod listing;
 mod looks;
@@ -52,7 +53,7 @@ use std::process::ExitCode;
 
 const USAGE: &str = "usage: model answer | script SEED CALLS | count SCRIPT ANSWERS | cuts | list | capture SEED | \
 chunks SEED CAPTURES | expiries SEED DESKS | lanes SEED RUNS | folders SEED CALLS | noise SEED ROUNDS | \
-scans SEED RUNS | tallies SEED CAPTURES | vectors";
+scans SEED RUNS | tallies SEED CAPTURES | lab | vectors";
 
 /// 0 when all is well, 1 when a check fails, 2 when the command can't be carried out.
 fn main() -> ExitCode {
@@ -107,6 +108,7 @@ fn run(words: &[&str]) -> io::Result<bool> {
             let (report, no_difference) = sums::report(number(seed)?, number(captures)?);
             put(report, no_difference)
         }
+        ["lab"] => put(lab::night(), true),
         ["vectors"] => {
             let (report, all_hold) = vectors::report();
             put(report, all_hold)

@@ -40,9 +40,9 @@ impl Receiver {
         let mut fed = Fed { taken: 0, lines: Vec::new(), refusal: None };
         loop {
             match self.step(&chunk[fed.taken..], tally) {
-                Ok((taken, line)) => {
+                Ok((taken, ended)) => {
                     fed.taken += taken;
-                    fed.lines.extend(line);
+                    fed.lines.extend(ended.map(|(place, fate)| fate.line(place)));
                 }
                 Err(no) => fed.refusal = Some(no),
             }
@@ -53,15 +53,15 @@ impl Receiver {
     }
 
     /// Takes the bytes up to and including the one that ends the next line, or all where none ends. Answers how many
-    /// it took and the line, which the tally has counted; 76 where its number would pass the largest, then 60 where
-    /// what is left would carry the place past the largest.
-    fn step(&mut self, left: &[u8], tally: &mut Tally) -> Result<(usize, Option<String>), No> {
+    /// it took and the place and the fate of the line's frame, which the tally has counted; 76 where its number would
+    /// pass the largest, then 60 where what is left would carry the place past the largest.
+    pub fn step(&mut self, left: &[u8], tally: &mut Tally) -> Result<(usize, Option<(u64, Fate)>), No> {
         let counted = self.ending(left).map_or(Ok(*tally), |fate| tally.with(&fate))?;
         lowest(&[(60, self.place.checked_add(left.len() as u64).is_none())])?;
         *tally = counted;
         for (before, byte) in left.iter().enumerate() {
-            if let Some((place, fate)) = self.take(*byte) {
-                return Ok((before + 1, Some(fate.line(place))));
+            if let Some(ended) = self.take(*byte) {
+                return Ok((before + 1, Some(ended)));
             }
         }
         Ok((left.len(), None))
@@ -116,9 +116,14 @@ impl Receiver {
         fate
     }
 
+    /// The place of the open frame's 13, if there is one.
+    pub fn open_at(&self) -> Option<u64> {
+        self.open.as_ref().map(|frame| frame.place)
+    }
+
     /// What is left to say, each line ended by one newline: the open frame if there is one, and the totals.
     pub fn rest(&self) -> String {
-        let open = self.open.iter().map(|frame| Fate::Open.line(frame.place));
+        let open = self.open_at().into_iter().map(|place| Fate::Open.line(place));
         let totals = totals(self.read, self.refused, self.dropped);
         open.chain([totals]).map(|line| format!("{line}\n")).collect()
     }
