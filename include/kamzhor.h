@@ -802,7 +802,7 @@ static inline void kamzhor_scan_close(struct kamzhor_scan *scan, struct kamzhor_
     *scan = kamzhor_after_scan_close(*scan, answer);
 }
 
-/* What was found at a module: one of KAMZHOR_FOUND_.. */
+/* What was found at a module: one of KAMZHOR_FOUND_.. Modules 0 and over 160 have no turn, and are not yet for ever. */
 static inline uint32_t kamzhor_scan_look(const struct kamzhor_scan *scan, uint8_t module)
 {
     return kamzhor_look_at_scan(*scan, module);

@@ -266,7 +266,8 @@ static struct kamzhor_step step_from(struct kamzhor_receiver *from, struct kamzh
     struct kamzhor_step step;
     struct kamzhor_frame read;
     size_t size;
-    number_is(kamzhor_receive(from, lent, taken ? first.bytes + taken : first.bytes, first.n - taken, frame, &size, &step), step.refusal);
+    int number = kamzhor_receive(from, lent, taken ? first.bytes + taken : first.bytes, first.n - taken, frame, &size, &step);
+    number_is(number, step.refusal);
     read = kamzhor_read_frame(frame, size, data, sizeof data);
     if (step.line == KAMZHOR_LINE_OK ? memcmp(&read, &step.frame, sizeof read) != 0 : size != 0)
         fail("the frame is not that of the line");

@@ -45,11 +45,13 @@ int desk_open(struct words *w)
 int desk_reply(struct words *w)
 {
     struct kamzhor_booked a;
+    int number;
     take_lent(w, &first);
     take_lent(w, &room);
     if (!all_taken(w))
         return 0;
-    number_is(kamzhor_desk_reply(desk, first.bytes, first.n, room.bytes, room.n, &a), a.refusal);
+    number = kamzhor_desk_reply(desk, first.bytes, first.n, room.bytes, room.n, &a);
+    number_is(number, a.refusal);
     kamzhor_box_reply(box, a);
     kamzhor_scan_reply(scan, a);
     if (a.refusal) {
@@ -198,9 +200,11 @@ int lane_join(struct words *w)
 {
     struct kamzhor_request asked = take_request(w);
     struct kamzhor_joined a;
+    int number;
     if (!all_taken(w))
         return 0;
-    number_is(kamzhor_lanes_join(lanes, asked, first.bytes, first.n, &a), a.refusal);
+    number = kamzhor_lanes_join(lanes, asked, first.bytes, first.n, &a);
+    number_is(number, a.refusal);
     if (a.refusal) {
         say_refusal(a.refusal, a.lane == 0 && a.place == 0);
         return 1;
@@ -234,10 +238,12 @@ int lane_grant(struct words *w)
 {
     uint32_t clock = (uint32_t)take_number(w, MOST_32);
     struct kamzhor_granted a;
+    int number;
     take_lent(w, &room);
     if (!all_taken(w))
         return 0;
-    number_is(kamzhor_lanes_grant(lanes, desk, clock, room.bytes, room.n, &a), a.refusal);
+    number = kamzhor_lanes_grant(lanes, desk, clock, room.bytes, room.n, &a);
+    number_is(number, a.refusal);
     say_granted(&a);
     say_room();
     return 1;

@@ -184,12 +184,14 @@ int scan_step(struct words *w)
 {
     uint32_t clock = (uint32_t)take_number(w, MOST_32);
     struct kamzhor_scanned a;
+    int number;
     take_lent(w, &room);
     if (!all_taken(w))
         return 0;
     if (!has_scan)
         return no_scan();
-    number_is(kamzhor_scan_step(scan, desk, clock, room.bytes, room.n, &a), a.refusal);
+    number = kamzhor_scan_step(scan, desk, clock, room.bytes, room.n, &a);
+    number_is(number, a.refusal);
     say_scanned(&a);
     say_room();
     return 1;
@@ -266,13 +268,15 @@ int bench_set(struct words *w)
 int bench_tele(struct words *w)
 {
     struct kamzhor_taken a;
+    int number;
     take_lent(w, &first);
     take_lent(w, &room);
     if (!all_taken(w))
         return 0;
     if (!has_bench)
         return no_bench();
-    number_is(kamzhor_bench_take(bench, first.bytes, first.n, room.bytes, room.n, &a), a.refusal);
+    number = kamzhor_bench_take(bench, first.bytes, first.n, room.bytes, room.n, &a);
+    number_is(number, a.refusal);
     if (a.refusal)
         say_refusal_at(a.refusal, a.place, a.size == 0);
     else

@@ -114,14 +114,17 @@ size_t some_frame(uint8_t *frame, size_t *data)
     rest = plain_remainder(message, m);
     message[m++] = (uint8_t)(rest / 256);
     message[m++] = (uint8_t)(rest % 256);
-    if (below(10) == 0)
-        message[below(m)] ^= (uint8_t)(1u << below(8));
+    if (below(10) == 0) {
+        i = below(m);
+        message[i] ^= (uint8_t)(1u << below(8));
+    }
     if (below(24) == 0)
         m = below(7);
     n = plain_framed(message, m, frame);
     switch (below(12)) { /* damage on the line */
     case 0:
-        frame[below(n)] = some_byte();
+        i = below(n);
+        frame[i] = some_byte();
         break;
     case 1:
         i = below(n);

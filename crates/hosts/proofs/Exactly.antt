@@ -1,25 +1,29 @@
 -- "Each is given exactly when its condition holds and no earlier one does": of the numbers that C is told, over the same rows as the calls
 -- below. 0 is told exactly where no row holds.
 -- Assumes nothing.
-use mathlib.Core.Path.{_≡_, refl, ap, _∙_}
-use mathlib.Core.Logic.{_↔_}
+use mathlib.Core.Path.{_≡_, refl, sym, ap, _∙_, subst}
+use mathlib.Core.Logic.{_≢_, _↔_}
 use mathlib.Core.Option.{some, none}
 use mathlib.Core.List.{List, [], _∷_, _++_}
-use Prim.Native.Nat.{ℕ, _+_, _<_}
+use Prim.Native.Nat.{ℕ, _+_, _≤_, _<_}
 use lib.ListN.{length}
-use Rattle.rows.specs.Rows.{passedUp, numbersOf, First, NoRow, Numbered}
+use Rattle.rows.specs.Rows.{row, passedUp, numbersOf, First, NoRow, Numbered}
 use Rattle.bench.specs.Build.{makeRows, addRows, setRows}
-use Rattle.bench.specs.Take.{silenceRows}
+use Rattle.bench.proofs.Silence.{silent-number}
+use Rattle.bench.specs.Take.{silenceRows, MeansSilence}
 use Rattle.bench.specs.declared.Bench.{Bench}
+use Rattle.bench.specs.declared.Taking.{Taking}
 use Rattle.catalogue.specs.Catalogue.{findRows}
 use Rattle.desk.specs.Close.{cancelRows, expireRows}
-use Rattle.desk.specs.Open.{openRows}
+use Rattle.desk.specs.Folder.{IsFolderHeld}
+use Rattle.desk.proofs.Count.{refused-count}
+use Rattle.desk.specs.Open.{openRows, IsNoneFree, distanceOf}
 use Rattle.desk.specs.Reply.{replyRows}
 use Rattle.desk.specs.declared.Desk.{Desk}
-use Rattle.lanes.specs.Grant.{Grants}
+use Rattle.lanes.specs.Grant.{nextPlace}
 use Rattle.lanes.specs.Join.{joinRows}
+use Rattle.lanes.specs.Lanes.{laneAt, waitingAt}
 use Rattle.lanes.specs.Withdraw.{withdrawRows}
-use Rattle.lanes.specs.declared.AfterGrant.{AfterGrant}
 use Rattle.lanes.specs.declared.Lanes.{Lanes}
 use Rattle.request.specs.declared.Request.{Request}
 use Rattle.scan.specs.declared.Scan.{Scan}
@@ -27,10 +31,11 @@ use Rattle.setting.specs.Setting.{setting}
 use Rattle.setting.specs.declared.Head.{Head}
 use Rattle.sheet_editor.specs.Editor.{removeRows, moduleRows, addRows as addedRows}
 use Rattle.varia.specs.Display.{displayRows, displayTold, twoBytes}
+use Rattle.turns.specs.Turns.{Orderly}
 use Rattle.values.specs.Values.{bytesOf}
 use Rattle.varia.specs.Box.{edgeRows, attenuationRows, edgeRegister, request}
 use Rattle.varia.specs.declared.Pass.{Pass}
-use Rattle.kamzhor.specs.Bench.{GivesBench, GivesAdd, GivesSet, GivesTake}
+use Rattle.kamzhor.specs.Bench.{GivesBench, GivesAdd, GivesSet, GivesTake, takeGiven}
 use Rattle.kamzhor.specs.Desk.{GivesOpen, GivesReply, GivesCancel, GivesExpire}
 use Rattle.kamzhor.specs.Filters.{GivesEdge, GivesAttenuation, GivesMonitor, GivesStatus, GivesWhich, boxMeant}
 use Rattle.kamzhor.specs.Host.{told}
@@ -56,15 +61,16 @@ use Rattle.kamzhor.specs.declared.host_values.SizeAnswer.{SizeAnswer}
 use Rattle.hosts.proofs.Numbers.{written-number, stored-number, entry-number, open-number, reply-number, close-number}
 use Rattle.hosts.proofs.Numbers.{join-number, grant-number, withdraw-number, ask-number, scan-number, build-number, take-number}
 use Rattle.hosts.proofs.Numbers.{sheet-number, check-number, record-number, edit-number}
+use Rattle.hosts.proofs.Fields.{open-count}
 use Rattle.hosts.proofs.Told.{numbered-as}
 use Rattle.bench.proofs.Laws as bench
 use Rattle.bench.specs.Register as at-bench
+use Rattle.bench.specs.declared.Taking.the-variants as takings
 use Rattle.catalogue.proofs.Laws as catalogue
 use Rattle.catalogue.specs.Catalogue as of-catalogue
 use Rattle.desk.proofs.Ranking as desk-ranking
 use Rattle.desk.specs.Desk as at-desk
 use Rattle.lanes.proofs.Ranking as lanes-ranking
-use Rattle.lanes.specs.Grant as granting
 use Rattle.lanes.specs.Lanes as in-lanes
 use Rattle.scan.proofs.Laws as scan-laws
 use Rattle.setting.specs.Setting as of-setting
@@ -79,6 +85,7 @@ use Rattle.telegram.specs.Read as of-telegram
 use Rattle.telegram.specs.Write as telegram-write
 use Rattle.values.proofs.Laws as values-laws
 use Rattle.values.specs.Values as of-value
+use Rattle.turns.proofs.Laws as turns
 use Rattle.varia.proofs.Ranking as varia-ranking
 use Rattle.varia.specs.Box as at-box
 
@@ -112,6 +119,19 @@ open-exactly desk asked bytes clock room {r} {room′} g =
     numbered-as (ap (λ (a : AfterDeskOpen). told (a .answer .refusal)) (g .2) ∙ open-number (g .0 .answer) (g .0 .count))
     (desk-ranking.open-exactly desk asked bytes clock room (g .0) room′ (g .1))
 
+-- 02, #108: "95 with 15, 0 with 10 to 14", and 0 with 75
+pub open-considered : (desk : Desk) (asked : Request) (bytes : List ℕ) (clock : ℕ) (room : List ℕ) (r : AfterDeskOpen) (room′ : List ℕ)
+    → GivesOpen desk asked bytes clock room r room′ → (n : ℕ) → told (r .answer .refusal) ≡ some n
+    → (n ≤ 14 → r .answer .considered ≡ 0)
+    × (n ≡ 15 → r .answer .considered ≡ 95)
+    × (n ≡ 16 → r .answer .considered ≡ distanceOf desk clock + 1)
+    × (n ≡ 75 → r .answer .considered ≡ 0)
+open-considered desk asked bytes clock room r room′ g n e =
+    let same = ap (λ (a : AfterDeskOpen). told (a .answer .refusal)) (g .2) ∙ open-number (g .0 .answer) (g .0 .count) in
+    let count = ap (λ (a : AfterDeskOpen). a .answer .considered) (g .2) ∙ open-count (g .0 .answer) (g .0 .count) in
+    let below = refused-count desk asked bytes clock room (g .0) room′ (g .1) n (sym same ∙ e) in
+    (λ h. count ∙ below .0 h, λ h. count ∙ below .1 h, λ h. count ∙ below .2 h, λ h. count ∙ below .3 h)
+
 pub reply-exactly : (desk : Desk) (frame room : List ℕ) {r : AfterDeskReply} {room′ : List ℕ} → GivesReply desk frame room r room′
     → Numbered (passedUp at-desk.faultNumber (replyRows desk frame (length room)))
     (1 ∷ 2 ∷ 3 ∷ 4 ∷ 5 ∷ 6 ∷ 7 ∷ 8 ∷ 9 ∷ 61 ∷ 17 ∷ 18 ∷ 19 ∷ 20 ∷ []) (told (r .answer .refusal))
@@ -139,11 +159,19 @@ join-exactly lanes asked bytes g =
     numbered-as (ap (λ (a : AfterLanesJoin). told (a .answer .refusal)) (g .2) ∙ join-number (g .0 .answer))
     (lanes-ranking.join-exactly lanes asked bytes (g .0) (g .1))
 
--- a grant's numbers are the lanes' own, 73 and 74, and then the desk's of the request that is opened
-pub grant-as-told : (lanes : Lanes) (desk : Desk) (clock : ℕ) (room : List ℕ) (r : AfterLanesGrant) (room′ : List ℕ) → GivesGrant lanes desk clock room r room′
-    → (o : AfterGrant) × Grants lanes desk clock room o room′ × (told (r .answer .refusal) ≡ granting.grantTold (o .answer))
-grant-as-told lanes desk clock room r room′ g =
-    (g .0, g .1, ap (λ (a : AfterLanesGrant). told (a .answer .refusal)) (g .2) ∙ grant-number (g .0 .answer) (g .0 .count))
+-- of lanes that are in order, as calls leave them; of any others a grant may be told another number of the desk's
+pub grant-exactly : (lanes : Lanes) (desk : Desk) (clock : ℕ) (room : List ℕ) (r : AfterLanesGrant) (room′ : List ℕ) → Orderly lanes
+    → GivesGrant lanes desk clock room r room′
+    → Numbered
+    (row (length room < 494) 73
+    ∷ row ((place : ℕ) → place < 16 → laneAt lanes place .size ≡ 0) 74
+    ∷ row (IsFolderHeld desk (waitingAt (laneAt lanes (nextPlace lanes)) 0 .asked)) 75
+    ∷ row (IsNoneFree desk clock) 15
+    ∷ [])
+    (73 ∷ 74 ∷ 75 ∷ 15 ∷ []) (told (r .answer .refusal))
+grant-exactly lanes desk clock room r room′ orderly g =
+    numbered-as (ap (λ (a : AfterLanesGrant). told (a .answer .refusal)) (g .2) ∙ grant-number (g .0 .answer) (g .0 .count))
+    (turns.grant-exactly lanes desk clock room (g .0) room′ orderly (g .1))
 
 pub withdraw-exactly : (lanes : Lanes) (job at : ℕ) {r : AfterLanesWithdraw} → GivesWithdraw lanes job at r
     → Numbered (passedUp in-lanes.faultNumber (withdrawRows lanes job at)) (55 ∷ []) (told (r .refusal))
@@ -225,6 +253,17 @@ pub take-exactly : (held : Bench) (frame room : List ℕ) {r : AfterBenchTake} {
     (1 ∷ 2 ∷ 3 ∷ 4 ∷ 5 ∷ 6 ∷ 7 ∷ 8 ∷ 9 ∷ 35 ∷ 36 ∷ 37 ∷ []) (told (r .answer .refusal))
 take-exactly held frame room g =
     numbered-as (ap (λ (a : AfterBenchTake). told (a .answer .refusal)) (g .2) ∙ take-number (g .0 .answer)) (bench.take-exactly held frame room (g .1))
+
+-- of these 6 never is: all but 0 mean silence
+pub take-silent : (held : Bench) (frame room : List ℕ) {r : AfterBenchTake} {room′ : List ℕ} → GivesTake held frame room r room′ → r .answer .refusal ≢ 0
+    → MeansSilence (r .answer .refusal)
+take-silent held frame room {r} {room′} g n =
+    subst MeansSilence (sym (ap (λ (a : AfterBenchTake). a .answer .refusal) (g .2)))
+    (by (g .0 .answer) refl (λ e. n (ap (λ (a : AfterBenchTake). a .answer .refusal) (g .2) ∙ e)))
+  where
+    by : (a : Taking) → g .0 .answer ≡ a → takeGiven (g .0 .answer) .refusal ≢ 0 → MeansSilence (takeGiven (g .0 .answer) .refusal)
+    by (takings.Silent f) e m = rw e (silent-number held frame room (g .1) f e)
+    by (takings.Answered size) e m = absurd (m (rw e))
 
 -- ---- sheets
 

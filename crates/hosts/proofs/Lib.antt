@@ -2,8 +2,8 @@ pub mod Told
 pub mod Settled
 pub mod AsCalled
 pub mod Numbers
+pub mod Fields
 pub mod Exactly
 pub mod Refused
-pub mod Fields
 pub mod Night
 pub mod Plainly

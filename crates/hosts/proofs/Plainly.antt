@@ -12,19 +12,29 @@ use Rattle.desk.specs.Desk.{freshDesk, shown, ticketOn}
 use Rattle.desk.proofs.Laws.{fresh-opens}
 use Rattle.desk.specs.Open.{requestAt}
 use Rattle.desk.specs.declared.Desk.{Desk}
+use Rattle.lanes.specs.declared.Lanes.{Lanes}
 use Rattle.nights.specs.Night.{Event, Last, Right, Fitting, Theirs, MayBeGiven, FolderFree, lastOn, stands, givenUp}
 use Rattle.request.specs.Request.{askRefusal}
 use Rattle.request.specs.declared.Request.{Request}
+use Rattle.scan.specs.declared.Scan.{Scan}
 use Rattle.telegram.specs.Read.{fieldsIn}
 use Rattle.ticket.specs.Due.{age}
 use Rattle.ticket.specs.Fit.{KindFits, RegisterFits}
 use Rattle.ticket.specs.declared.Ticket.{Ticket}
 use Rattle.kamzhor.specs.Desk.{GivesOpen, GivesReply, GivesCancel, GivesExpire, GivesSeen, seenGiven}
+use Rattle.kamzhor.specs.Filters.{GivesEdge}
+use Rattle.kamzhor.specs.Lanes.{GivesGrant}
+use Rattle.kamzhor.specs.Scan.{GivesScanStep}
+use Rattle.kamzhor.specs.declared.host_box.AfterBoxAsk.{AfterBoxAsk}
+use Rattle.kamzhor.specs.declared.host_box.HostBox.{HostBox}
 use Rattle.kamzhor.specs.declared.host_desk.AfterDeskClose.{AfterDeskClose}
 use Rattle.kamzhor.specs.declared.host_desk.AfterDeskOpen.{AfterDeskOpen}
 use Rattle.kamzhor.specs.declared.host_desk.AfterDeskReply.{AfterDeskReply}
 use Rattle.kamzhor.specs.declared.host_desk.SeenAnswer.{SeenAnswer}
-use Rattle.hosts.specs.Night.{Called, opens, replies, cancels, expires, seen, AllMade, lastDesk, allSeen}
+use Rattle.kamzhor.specs.declared.host_lanes.AfterLanesGrant.{AfterLanesGrant}
+use Rattle.kamzhor.specs.declared.host_scan.AfterScanStep.{AfterScanStep}
+use Rattle.varia.specs.declared.Pass.{Pass}
+use Rattle.hosts.specs.Night.{Called, grants, sets, steps, granted, opens, replies, cancels, expires, seen, AllMade, lastDesk, allSeen}
 use Rattle.hosts.proofs.Night.{goes-on, host-night}
 
 -- what looking shows of an open ticket is that ticket
@@ -55,6 +65,25 @@ module _ (calls : List Called) (made : AllMade freshDesk calls) where
       let may : MayBeGiven (lastOn seen-so-far (r .answer .address)) clock = right .0 in
       let free : FolderFree seen-so-far asked = right .1 in
       (λ theirs opening p. subst (λ (l : Last). MayBeGiven l clock) p may, λ closing p. subst (λ (l : Last). MayBeGiven l clock) p may, free)
+
+  -- and so is what the lanes, the box and the scan open
+  pub host-grants : (lanes : Lanes) (clock : ℕ) (room : List ℕ) (r : AfterLanesGrant) (room′ : List ℕ) → GivesGrant lanes desk-now clock room r room′
+      → r .answer .refusal ≡ 0 → MayBeGiven (lastOn seen-so-far (r .answer .address)) clock × FolderFree seen-so-far (granted lanes)
+  unfolding Right
+  host-grants lanes clock room r room′ g done =
+      let right = rw done at (goes-on desk-now seen-so-far (host-night calls made) (grants lanes clock room r room′) g .right) in (right .0, right .1)
+
+  pub host-sets : (pass : Pass) (filters : HostBox) (tenths wait clock : ℕ) (room : List ℕ) (r : AfterBoxAsk) (room′ : List ℕ)
+      → GivesEdge pass filters desk-now tenths wait clock room r room′ → r .answer .refusal ≡ 0 → MayBeGiven (lastOn seen-so-far (r .answer .address)) clock
+  unfolding Right
+  host-sets pass filters tenths wait clock room r room′ g done =
+      (rw done at (goes-on desk-now seen-so-far (host-night calls made) (sets pass filters tenths wait clock room r room′) g .right)) .0
+
+  pub host-scans : (scan : Scan) (clock : ℕ) (room : List ℕ) (r : AfterScanStep) (room′ : List ℕ) → GivesScanStep scan desk-now clock room r room′
+      → r .answer .state ≡ 1 → MayBeGiven (lastOn seen-so-far (r .answer .address)) clock
+  unfolding Right
+  host-scans scan clock room r room′ g asked =
+      (rw asked at (goes-on desk-now seen-so-far (host-night calls made) (steps scan clock room r room′) g .right)) .0
 
   -- "A filter reading meant for one animal was filed under the other": what is booked is answered with the job and the folder of the opening that stands
   -- on the address, and it came from the module that was asked, of a kind and a register that fit

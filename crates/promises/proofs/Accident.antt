@@ -22,8 +22,8 @@ pub use Rattle.overdue.proofs.Laws.{night-swept, folders-apart-swept}
 pub use Rattle.evenings.proofs.Laws.{night-beside, folders-apart-beside}
 pub use Rattle.scans.proofs.Laws.{night-beside as night-beside-a-scan, folders-apart-beside as folders-apart-beside-a-scan}
 -- and so is any night of a C host, whatever it calls of the archive, by the numbers that C is told
-pub use Rattle.hosts.proofs.Night.{goes-on, goes-on-all, host-night}
-pub use Rattle.hosts.proofs.Plainly.{host-opens, host-books, host-cancels, host-expires, host-folders}
+pub use Rattle.hosts.proofs.Night.{goes-on, goes-on-all, host-night, night-from}
+pub use Rattle.hosts.proofs.Plainly.{host-opens, host-grants, host-sets, host-scans, host-books, host-cancels, host-expires, host-folders, host-opens-fresh}
 
 -- after any calls one call opened a ticket, any calls later another did
 module _ (before : List Call) (first : Call) (between : List Call) (second : Call) (address other : ℕ) (asked theirs : Request) (clock clock′ : ℕ)

@@ -1,6 +1,6 @@
 -- End to end: a request that was opened at the desk, the reply of a bench at that module's address, and the ticket that the reply closes.
 -- Assumes nothing.
-use mathlib.Core.Path.{_≡_, refl, sym, _∙_}
+use mathlib.Core.Path.{_≡_, refl, sym, ap, _∙_, subst}
 use mathlib.Core.Bool.{Bool, true, false, cond, _&&_}
 use mathlib.Core.List.{List}
 use mathlib.Core.Logic.{_≢_, _⊎_, inl, inr, ⊎-elim}
@@ -52,6 +52,8 @@ use Rattle.desk.specs.declared.Opening.the-variants.{Opened}
 use Rattle.desk.specs.declared.Booking.the-variants.{Booked, Refused}
 use Rattle.desk.specs.declared.AfterOpen.{AfterOpen}
 use Rattle.desk.specs.declared.AfterReply.{AfterReply}
+use Rattle.kamzhor.specs.Desk.{GivesReply, replyGiven}
+use Rattle.kamzhor.specs.declared.host_desk.AfterDeskReply.{AfterDeskReply}
 use Rattle.nights.proofs.Laws.{allowed-sound}
 use Rattle.nights.specs.Night.{SoundDesk}
 
@@ -259,3 +261,16 @@ module _ (desk : Desk) (sound : SoundDesk desk) (asked : Request) (bytes : List 
         × ClosedAlone (o .desk) address noTicket (b .desk)
         × (room₂′ ≡ over (bytesOf (deed .size) (deed .value)) room₂)
     end-to-end room₂ enough b room₂′ replies = booked-there (o .desk) room₂ enough b room₂′ replies ticket-stands
+
+    -- the same in C's numbers: there are replies that a C host is told as booked
+    pub host-end-to-end : (room₂ : List ℕ) → 8 ≤ length room₂ → (b : AfterDeskReply) (room₂′ : List ℕ) → GivesReply (o .desk) reply room₂ b room₂′
+        → (b .answer
+        ≡ record { refusal = 0; job = asked .job; folder = asked .folder; address = address; sort = deed .sort; size = deed .size; place = 0 })
+        × ClosedAlone (o .desk) address noTicket (b .desk)
+        × (room₂′ ≡ over (bytesOf (deed .size) (deed .value)) room₂)
+    host-end-to-end room₂ enough b room₂′ g =
+        let e = end-to-end room₂ enough (g .0) room₂′ (g .1) in (
+          ap (λ (a : AfterDeskReply). a .answer) (g .2) ∙ ap replyGiven (e .0),
+          subst (ClosedAlone (o .desk) address noTicket) (sym (ap (λ (a : AfterDeskReply). a .desk) (g .2))) (e .1),
+          e .2,
+        )
