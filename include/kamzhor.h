@@ -24,10 +24,10 @@
  * Stack, with what passes by value: under 1 KiB for the calls on bytes and numbers and for sheets, under 8 KiB for kamzhor_step and a
  * bench, under 32 KiB for the desk, a box and a scan, under 128 KiB for lanes. A thread that calls these needs more than the least.
  *
- * Memory: every pointer to bytes comes with its length, in bytes, and one to a list with its entries; one to a tally or a state is to one whole struct. What is lent
- * stays the caller's; the library reads and writes it during the call only, never past its length, and keeps no pointer. A
- * null pointer with length 0 is an empty string of bytes; a tally's or a state's pointer is never null. A pointer to an answer may be
- * null where only the number is asked for.
+ * Memory: every pointer to bytes comes with its length, in bytes, and one to a list with its entries; one to a tally or a state
+ * is to one whole struct. What is lent stays the caller's; the library reads and writes it during the call only, never past its
+ * length, and keeps no pointer. A null pointer with length 0 is an empty string of bytes; a tally's or a state's pointer is never
+ * null. A pointer to an answer may be null where only the number is asked for.
  *
  * Six things nobody checks, so the caller must see to them:
  *   - lengths are true: that many bytes can be read there, and in a room also be written;
