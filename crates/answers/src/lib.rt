@@ -1,6 +1,7 @@
 // An answer line, put together in a lent space: each call adds some text from a place on and
 // answers the place after it. What does not fit is lost, and no answer is that long. A part of the
 // test tool `rehearsal`.
+#![tactic(auto)]
 
 // A word as it is.
 pub fn text(out: &mut [u8], at: usize, words: &[u8]) -> usize {

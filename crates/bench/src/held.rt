@@ -10,7 +10,7 @@ use deeds::Register;
 pub const MOST: usize = 32;
 
 // Where a register is held, if it is.
-#[derive(Drop)]
+#[derive(Clone, Copy)]
 pub(crate) enum Found {
     At(usize),
     Nowhere,

@@ -1,5 +1,7 @@
 // A bench module to test against: one address, up to 32 registers, and the answers that the maker
 // describes. specs/ says what each call answers.
+#![tactic(auto)]
+
 mod build;
 mod held;
 mod request;
@@ -13,7 +15,7 @@ pub use request::take;
 
 // The first `count` registers are held.
 #[repr(C)]
-#[derive(Drop)]
+#[derive(Clone, Copy)]
 pub struct Bench {
     pub address: u8,
     pub count: u8,
@@ -21,7 +23,7 @@ pub struct Bench {
 }
 
 // Why the bench refused a call, or keeps silent.
-#[derive(Drop)]
+#[derive(Clone, Copy)]
 pub enum Fault {
     // the telegram could not be read
     Unread(telegram::Fault),
@@ -37,33 +39,33 @@ pub enum Fault {
     DoesNotFit,
 }
 
-#[derive(Drop)]
+#[derive(Clone, Copy)]
 pub enum Building {
     Done,
     Refused(Fault),
 }
 
-#[derive(Drop)]
+#[derive(Clone, Copy)]
 pub enum Taking {
     // how long the reply is
     Answered(usize),
     Silent(Fault),
 }
 
-#[derive(Drop)]
+#[derive(Clone, Copy)]
 pub enum Seen {
     Held(Register),
     NotHeld,
 }
 
 // A call's answer, with the bench as it is afterwards.
-#[derive(Drop)]
+#[derive(Clone, Copy)]
 pub struct AfterBuild {
     pub bench: Bench,
     pub answer: Building,
 }
 
-#[derive(Drop)]
+#[derive(Clone, Copy)]
 pub struct AfterTake {
     pub bench: Bench,
     pub answer: Taking,

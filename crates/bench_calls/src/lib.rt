@@ -1,11 +1,13 @@
 // The calls on the bench. Each takes the bench and gives it back as it is afterwards. A part of the
 // test tool `rehearsal`.
+#![tactic(auto)]
+
 use bench::{AfterBuild, Bench, Building, Register, Seen, Taking};
 use values_calls::value_of;
 use words::{Words, byte, count};
 
 // The bench after a call, whether one was made yet, and how long the answer is.
-#[derive(Drop)]
+#[derive(Clone, Copy)]
 pub struct Shown {
     pub bench: Bench,
     pub made: bool,

@@ -1,11 +1,13 @@
 // The register catalogue: the registers of each type of module, the kind of their values, and what
 // may be written there. `specs/Catalogue.antt` has the paper's table in the paper's words.
+#![tactic(auto)]
+
 mod table;
 
 ghost use Rattle.catalogue.specs.Catalogue.{Numbers, Finds};
 
 // What the catalogue says of a register. Where it may not be written, both ends are 0.
-#[derive(Drop)]
+#[derive(Clone, Copy)]
 pub struct Entry {
     pub kind: u8,
     pub writable: bool,
@@ -13,12 +15,12 @@ pub struct Entry {
     pub highest: u64,
 }
 
-#[derive(Drop)]
+#[derive(Clone, Copy)]
 pub enum Fault {
     NoSuchRow,
 }
 
-#[derive(Drop)]
+#[derive(Clone, Copy)]
 pub enum Found {
     Is(Entry),
     Refused(Fault),

@@ -25,7 +25,7 @@ const MAX16: u64 = 0xffff;
 const MAX32: u64 = 0xffff_ffff;
 
 // A register of a type of module. Where it may not be written, both ends are 0.
-#[derive(Drop)]
+#[derive(Clone, Copy)]
 pub(crate) struct Row {
     pub(crate) model: u8,
     pub(crate) register: u8,

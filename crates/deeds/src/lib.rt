@@ -1,11 +1,13 @@
 // What a request does to a register that a bench holds: the rules of reads, writes and bit writes.
 // specs/ has them in the paper's words.
+#![tactic(auto)]
+
 ghost use Rattle.deeds.specs.Deeds.{Does, Nacks, has_right, read_deed, write_deed, is_bit_write, Changes};
 ghost use Rattle.std.specs.Prelude.{◌≡◌, ◌<◌};
 
 // A register of a bench. The value is the number that its bytes are, lowest first.
 #[repr(C)]
-#[derive(Drop)]
+#[derive(Clone, Copy)]
 pub struct Register {
     pub number: u8,
     pub kind: u8,
@@ -15,7 +17,7 @@ pub struct Register {
 
 // What a request does: the type of the reply, how many bytes of the value it carries, and the
 // register's value afterwards.
-#[derive(Drop)]
+#[derive(Clone, Copy)]
 pub struct Deed {
     pub sort: u8,
     pub size: usize,

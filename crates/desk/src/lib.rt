@@ -1,5 +1,7 @@
 // The ticket desk: each request goes out under a host address of its own, and each reply is booked
 // on the one ticket that is open on its address, or refused. specs/ says what each call answers.
+#![tactic(auto)]
+
 ghost use Rattle.desk.specs.Desk.{Fresh, Looks, Numbers, Places, Stands, live_as, stored_at, put_at};
 ghost use Rattle.marks.specs.Marks.{is_marked};
 ghost use Rattle.desk.specs.Folder.{holder_place, is_folder_held};
@@ -18,7 +20,7 @@ pub use ticket::Ticket;
 // is such a place too. A place is marked while it holds a ticket: the mark decides, and in each desk
 // that calls made the ticket's own `live` says the same.
 #[repr(C)]
-#[derive(Drop)]
+#[derive(Clone, Copy)]
 pub struct Desk {
     pub turn: u8,
     pub tickets: [Ticket; 95],
@@ -26,7 +28,7 @@ pub struct Desk {
 }
 
 // Why the desk refused.
-#[derive(Drop)]
+#[derive(Clone, Copy)]
 pub enum Fault {
     // what is asked may not be sent
     Denied(request::Fault),
@@ -43,14 +45,14 @@ pub enum Fault {
     NothingDue,
 }
 
-#[derive(Drop)]
+#[derive(Clone, Copy)]
 pub enum Opening {
     // the host address that was given, and the length of the request telegram
     Opened(u8, usize),
     Refused(Fault),
 }
 
-#[derive(Drop)]
+#[derive(Clone, Copy)]
 pub enum Booking {
     // whose ticket it was: job and address; what came: type and number of data bytes; and the folder
     // that the ticket held
@@ -58,14 +60,14 @@ pub enum Booking {
     Refused(Fault),
 }
 
-#[derive(Drop)]
+#[derive(Clone, Copy)]
 pub enum Closing {
     // the job, the address and the folder of the ticket that was closed
     Closed(u32, u8, u32),
     Refused(Fault),
 }
 
-#[derive(Drop)]
+#[derive(Clone, Copy)]
 pub enum Seen {
     Open(Ticket),
     // the last ticket there was cancelled or expired, at this clock
@@ -74,7 +76,7 @@ pub enum Seen {
 }
 
 // A call's answer, with the desk as it is afterwards.
-#[derive(Drop)]
+#[derive(Clone, Copy)]
 pub struct AfterOpen {
     pub desk: Desk,
     pub answer: Opening,
@@ -84,13 +86,13 @@ pub struct AfterOpen {
     pub count: u8,
 }
 
-#[derive(Drop)]
+#[derive(Clone, Copy)]
 pub struct AfterReply {
     pub desk: Desk,
     pub answer: Booking,
 }
 
-#[derive(Drop)]
+#[derive(Clone, Copy)]
 pub struct AfterClose {
     pub desk: Desk,
     pub answer: Closing,

@@ -1,10 +1,12 @@
 // The calls on the desk. Each takes the desk and gives it back as it is afterwards. A part of the
 // test tool `rehearsal`.
+#![tactic(auto)]
+
 use desk::{Booking, Closing, Desk, Opening, Request, Seen, Ticket};
 use words::{Words, byte, count, word32};
 
 // What others hear of a call: what the desk answered about a ticket, or that it is a new desk.
-#[derive(Drop)]
+#[derive(Clone, Copy)]
 pub enum Heard {
     Nothing,
     Reply(Booking),
@@ -13,7 +15,7 @@ pub enum Heard {
 }
 
 // The desk after a call, what is heard of it, and how long its answer is.
-#[derive(Drop)]
+#[derive(Clone, Copy)]
 pub struct Told {
     pub desk: Desk,
     pub heard: Heard,
@@ -75,7 +77,7 @@ fn open(d: Desk, w: Words, line: &[u8], out: &mut [u8]) -> Told {
 }
 
 // Up to the data: job, module, type and register; the waiting time and the folder are still 0.
-#[derive(Drop)]
+#[derive(Clone, Copy)]
 pub struct Ask {
     pub words: Words,
     pub asked: Request,
@@ -100,7 +102,7 @@ pub fn take_ask(w: Words, line: &[u8]) -> Ask {
 }
 
 // Behind the data: the waiting time, the folder and the clock.
-#[derive(Drop)]
+#[derive(Clone, Copy)]
 struct Times {
     words: Words,
     wait: u32,

@@ -1,5 +1,7 @@
 // What a frame is made of: the start and end bytes, and substitution both ways. A 10, 13 or 94 of a
 // message travels as 94 and the byte plus 64.
+#![tactic(auto)]
+
 ghost use Rattle.frame.specs.Frame.{Measures, Restores, Substitutes, is_special, opens, substitute};
 ghost use Rattle.frame.specs.Frame.{restore as restoreOf};
 ghost use Rattle.lent.specs.Lent.{over_at};
@@ -78,7 +80,7 @@ fn substitute_one(byte: u8, room: &mut [u8], at: usize) -> usize
 }
 
 // What one byte is turned back to: how many bytes that is, and whether it is a 94 that opens a pair.
-#[derive(Drop)]
+#[derive(Clone, Copy)]
 struct Turned {
     more: usize,
     after: bool,

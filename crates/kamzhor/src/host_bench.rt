@@ -7,7 +7,7 @@ use bench::Bench;
 
 // How long the reply is; a refusal means silence, and with 3 `place` is that of the first faulty 94.
 #[repr(C)]
-#[derive(Drop)]
+#[derive(Clone, Copy)]
 pub struct TakeAnswer {
     pub refusal: u32,
     pub size: u64,
@@ -16,7 +16,7 @@ pub struct TakeAnswer {
 
 // A register, where `held` is 1; else all is 0.
 #[repr(C)]
-#[derive(Drop)]
+#[derive(Clone, Copy)]
 pub struct RegisterAnswer {
     pub held: u32,
     pub number: u8,
@@ -26,14 +26,14 @@ pub struct RegisterAnswer {
 }
 
 #[repr(C)]
-#[derive(Drop)]
+#[derive(Clone, Copy)]
 pub struct AfterBenchBuild {
     pub bench: Bench,
     pub refusal: u32,
 }
 
 #[repr(C)]
-#[derive(Drop)]
+#[derive(Clone, Copy)]
 pub struct AfterBenchTake {
     pub bench: Bench,
     pub answer: TakeAnswer,

@@ -10,7 +10,7 @@ use varia::FilterBox;
 
 // An edge, in tenths of a nanometre; `known` is 1 where it is known, and else both are 0.
 #[repr(C)]
-#[derive(Drop)]
+#[derive(Clone, Copy)]
 pub struct HostEdge {
     pub known: u16,
     pub tenths: u16,
@@ -19,7 +19,7 @@ pub struct HostEdge {
 // Which edge a request is out for, 1 the short-pass one, 2 the long-pass one; its ticket's host
 // address, and the value that it asks for. All are 0 where none is out.
 #[repr(C)]
-#[derive(Drop)]
+#[derive(Clone, Copy)]
 pub struct HostOut {
     pub edge: u8,
     pub address: u8,
@@ -27,7 +27,7 @@ pub struct HostOut {
 }
 
 #[repr(C)]
-#[derive(Drop)]
+#[derive(Clone, Copy)]
 pub struct HostBox {
     pub job: u32,
     pub unit: u8,
@@ -37,7 +37,7 @@ pub struct HostBox {
 }
 
 #[repr(C)]
-#[derive(Drop)]
+#[derive(Clone, Copy)]
 pub struct AfterBoxAsk {
     pub filters: HostBox,
     pub desk: Desk,

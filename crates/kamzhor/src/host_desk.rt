@@ -9,7 +9,7 @@ use request::Request;
 // An opening. `refusal` is the paper's number, or 0; `address` the host address that was given,
 // `considered` how many addresses were, and `size` how long the request telegram is.
 #[repr(C)]
-#[derive(Drop)]
+#[derive(Clone, Copy)]
 pub struct OpenAnswer {
     pub refusal: u32,
     pub address: u8,
@@ -20,7 +20,7 @@ pub struct OpenAnswer {
 // A reply: whose ticket it was, its folder and host address, what came, and with refusal 3 the place
 // in the frame of the first faulty 94.
 #[repr(C)]
-#[derive(Drop)]
+#[derive(Clone, Copy)]
 pub struct ReplyAnswer {
     pub refusal: u32,
     pub job: u32,
@@ -33,7 +33,7 @@ pub struct ReplyAnswer {
 
 // A cancel or an expiry: whose ticket was closed, its folder and host address.
 #[repr(C)]
-#[derive(Drop)]
+#[derive(Clone, Copy)]
 pub struct CloseAnswer {
     pub refusal: u32,
     pub job: u32,
@@ -44,7 +44,7 @@ pub struct CloseAnswer {
 // What stands on a host address: `state` is 1 for an open ticket, 2 where the last one was cancelled
 // or expired, 0 for neither. What is not said is 0.
 #[repr(C)]
-#[derive(Drop)]
+#[derive(Clone, Copy)]
 pub struct SeenAnswer {
     pub state: u32,
     pub asked: Request,
@@ -53,28 +53,28 @@ pub struct SeenAnswer {
 }
 
 #[repr(C)]
-#[derive(Drop)]
+#[derive(Clone, Copy)]
 pub struct AfterDeskOpen {
     pub desk: Desk,
     pub answer: OpenAnswer,
 }
 
 #[repr(C)]
-#[derive(Drop)]
+#[derive(Clone, Copy)]
 pub struct AfterDeskReply {
     pub desk: Desk,
     pub answer: ReplyAnswer,
 }
 
 #[repr(C)]
-#[derive(Drop)]
+#[derive(Clone, Copy)]
 pub struct AfterDeskClose {
     pub desk: Desk,
     pub answer: CloseAnswer,
 }
 
 #[repr(C)]
-#[derive(Drop)]
+#[derive(Clone, Copy)]
 pub struct AfterDeskSweep {
     pub desk: Desk,
     pub count: u64,

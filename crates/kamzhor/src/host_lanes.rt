@@ -9,7 +9,7 @@ use request::Request;
 
 // Where a request joined: the lane and the place in it, both from 1.
 #[repr(C)]
-#[derive(Drop)]
+#[derive(Clone, Copy)]
 pub struct JoinAnswer {
     pub refusal: u32,
     pub lane: u8,
@@ -20,7 +20,7 @@ pub struct JoinAnswer {
 // were considered, and how long its telegram is. With refusal 75 `job` is the one whose request was
 // taken out.
 #[repr(C)]
-#[derive(Drop)]
+#[derive(Clone, Copy)]
 pub struct GrantAnswer {
     pub refusal: u32,
     pub job: u32,
@@ -30,14 +30,14 @@ pub struct GrantAnswer {
 }
 
 #[repr(C)]
-#[derive(Drop)]
+#[derive(Clone, Copy)]
 pub struct AfterLanesJoin {
     pub lanes: Lanes,
     pub answer: JoinAnswer,
 }
 
 #[repr(C)]
-#[derive(Drop)]
+#[derive(Clone, Copy)]
 pub struct AfterLanesGrant {
     pub lanes: Lanes,
     pub desk: Desk,
@@ -45,7 +45,7 @@ pub struct AfterLanesGrant {
 }
 
 #[repr(C)]
-#[derive(Drop)]
+#[derive(Clone, Copy)]
 pub struct AfterLanesWithdraw {
     pub lanes: Lanes,
     pub refusal: u32,

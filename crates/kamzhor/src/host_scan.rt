@@ -11,7 +11,7 @@ use scan::Scan;
 // telegram of `size` bytes; 2 where the ticket on `address` is still out; 3 where all turns are over;
 // 0 where the desk refused.
 #[repr(C)]
-#[derive(Drop)]
+#[derive(Clone, Copy)]
 pub struct ScanAnswer {
     pub refusal: u32,
     pub state: u8,
@@ -22,7 +22,7 @@ pub struct ScanAnswer {
 }
 
 #[repr(C)]
-#[derive(Drop)]
+#[derive(Clone, Copy)]
 pub struct AfterScanStep {
     pub scan: Scan,
     pub desk: Desk,

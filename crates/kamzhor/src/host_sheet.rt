@@ -8,7 +8,7 @@ use setting::Head;
 
 // How many records a right sheet has.
 #[repr(C)]
-#[derive(Drop)]
+#[derive(Clone, Copy)]
 pub struct CheckAnswer {
     pub refusal: u32,
     pub count: u64,
@@ -16,7 +16,7 @@ pub struct CheckAnswer {
 
 // What a record names, and how many bytes its value has.
 #[repr(C)]
-#[derive(Drop)]
+#[derive(Clone, Copy)]
 pub struct RecordAnswer {
     pub refusal: u32,
     pub head: Head,

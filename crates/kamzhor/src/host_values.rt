@@ -5,7 +5,7 @@ ghost use Rattle.std.specs.Prelude.{◌≡◌};
 
 // How long what was written is: a telegram or a sheet.
 #[repr(C)]
-#[derive(Drop)]
+#[derive(Clone, Copy)]
 pub struct SizeAnswer {
     pub refusal: u32,
     pub size: u64,
@@ -13,7 +13,7 @@ pub struct SizeAnswer {
 
 // A row of the catalogue: a register's kind, whether it may be written, and its limits.
 #[repr(C)]
-#[derive(Drop)]
+#[derive(Clone, Copy)]
 pub struct EntryAnswer {
     pub refusal: u32,
     pub kind: u8,

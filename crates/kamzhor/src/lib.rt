@@ -1,6 +1,8 @@
 // What a host in C calls; include/kamzhor.h is its side of this crate. Each call is thin over a
 // proved function and passes that function's promise on: specs/ says how. The remainder, the readers
 // and the receiver stand here, each other part of the library in a module of its own.
+#![tactic(auto)]
+
 mod host_bench;
 mod host_box;
 mod host_desk;
@@ -20,7 +22,7 @@ use tally::Tally;
 // A frame's reading. `refusal` is the paper's number, or 0 for a telegram; all else but `place` is 0
 // where it is not 0. `sort` is the message type and `size` how many data bytes there are.
 #[repr(C)]
-#[derive(Drop)]
+#[derive(Clone, Copy)]
 pub struct FrameAnswer {
     pub refusal: u32,
     pub destination: u8,
@@ -35,7 +37,7 @@ pub struct FrameAnswer {
 // A value: minus the magnitude where `negative` is 1, and the magnitude where it is 0. So every
 // number of every kind arrives, the unsigned 64-bit ones too, and there is no minus 0.
 #[repr(C)]
-#[derive(Drop)]
+#[derive(Clone, Copy)]
 pub struct ValueAnswer {
     pub refusal: u32,
     pub negative: u32,
@@ -47,7 +49,7 @@ pub struct ValueAnswer {
 // 2 refused, 3 dropped; 0 where none ended. `place` is that of the frame's 13, and `frame` what the
 // line says of it. What is not said is 0.
 #[repr(C)]
-#[derive(Drop)]
+#[derive(Clone, Copy)]
 pub struct StepAnswer {
     pub refusal: u32,
     pub line: u32,
@@ -58,7 +60,7 @@ pub struct StepAnswer {
 }
 
 // The same with the tally afterwards.
-#[derive(Drop)]
+#[derive(Clone, Copy)]
 pub struct StepCounted {
     pub tally: Tally,
     pub answer: StepAnswer,

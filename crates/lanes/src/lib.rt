@@ -1,6 +1,8 @@
 // Sixteen lanes in front of the desk, so that no job can fill the line: each lane is for one job and
 // holds up to four requests in order of arrival, and a grant opens the oldest request of the next
 // lane. They stand above the desk, on its promises. specs/ says what each call answers.
+#![tactic(auto)]
+
 ghost use Rattle.lanes.specs.Lanes.{Fresh, Numbers, lane_at, is_theirs, is_empty, waiting_with, with_last, with_lane, next_at, without};
 ghost use Rattle.lanes.specs.Lanes.{own_lane, empty_lane};
 ghost use Rattle.lanes.specs.Join.{Joins, JoinsAt, NotJoined, lane_for};
@@ -13,7 +15,7 @@ pub use desk::{Desk, Request};
 
 // A request that waits, and its data: the first `size` of the bytes, the others are zero.
 #[repr(C)]
-#[derive(Drop)]
+#[derive(Clone, Copy)]
 pub struct Waiting {
     pub asked: Request,
     pub size: u8,
@@ -23,7 +25,7 @@ pub struct Waiting {
 // The first `size` of these requests wait, the oldest first, and the lane belongs to their job. The
 // other places are zero. An empty lane belongs to nobody.
 #[repr(C)]
-#[derive(Drop)]
+#[derive(Clone, Copy)]
 pub struct Lane {
     pub size: u8,
     pub waiting: [Waiting; 4],
@@ -31,14 +33,14 @@ pub struct Lane {
 
 // Lane n, from 1 to 16, stands at the place n less 1; `last` is the place of the lane last served.
 #[repr(C)]
-#[derive(Drop)]
+#[derive(Clone, Copy)]
 pub struct Lanes {
     pub last: u8,
     pub lanes: [Lane; 16],
 }
 
 // Why a call on the lanes was refused.
-#[derive(Drop)]
+#[derive(Clone, Copy)]
 pub enum Fault {
     // what is asked may not be sent
     Denied(request::Fault),
@@ -53,14 +55,14 @@ pub enum Fault {
     AtDesk(desk::Fault),
 }
 
-#[derive(Drop)]
+#[derive(Clone, Copy)]
 pub enum Joining {
     // the lane, from 1, and the place in it, from 1
     Joined(u8, u8),
     Refused(Fault),
 }
 
-#[derive(Drop)]
+#[derive(Clone, Copy)]
 pub enum Granting {
     // the job whose request was opened, the host address that it was given, and the length of its
     // telegram
@@ -70,20 +72,20 @@ pub enum Granting {
     Refused(Fault),
 }
 
-#[derive(Drop)]
+#[derive(Clone, Copy)]
 pub enum Withdrawing {
     Done,
     Refused(Fault),
 }
 
 // A call's answer, with the lanes as they are afterwards.
-#[derive(Drop)]
+#[derive(Clone, Copy)]
 pub struct AfterJoin {
     pub lanes: Lanes,
     pub answer: Joining,
 }
 
-#[derive(Drop)]
+#[derive(Clone, Copy)]
 pub struct AfterGrant {
     pub lanes: Lanes,
     pub desk: Desk,
@@ -92,7 +94,7 @@ pub struct AfterGrant {
     pub count: u8,
 }
 
-#[derive(Drop)]
+#[derive(Clone, Copy)]
 pub struct AfterWithdraw {
     pub lanes: Lanes,
     pub answer: Withdrawing,

@@ -1,17 +1,19 @@
 // The calls on the lanes in front of the desk. Each takes lanes and desk and gives them back as they
 // are afterwards. A part of the test tool `rehearsal`.
+#![tactic(auto)]
+
 use desk::{Desk, Request};
 use lanes::{AfterGrant, Granting, Joining, Lane, Lanes, Waiting, Withdrawing};
 use words::{Words, count, word32};
 
-#[derive(Drop)]
+#[derive(Clone, Copy)]
 pub struct Hall {
     pub lanes: Lanes,
     pub desk: Desk,
 }
 
 // The same after a call, and how long the answer is.
-#[derive(Drop)]
+#[derive(Clone, Copy)]
 pub struct Told {
     pub hall: Hall,
     pub at: usize,

@@ -1,5 +1,7 @@
 // What is put into a buffer that somebody lent, and what is moved within it. Nothing here can write
 // past the buffer's end.
+#![tactic(auto)]
+
 ghost use Rattle.std.specs.Prelude.{◌≡◌, cond, ◌+◌, ◌≤◌, ◌<◌, leb, length};
 ghost use Rattle.lent.specs.Lent.{Lays, Moves};
 

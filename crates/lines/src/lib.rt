@@ -1,11 +1,13 @@
 // The listing's text, put together from fixed words and decimal numbers. Each piece answers the
 // place behind it, where the next one goes.
+#![tactic(auto)]
+
 ghost use Rattle.text.specs.Text.{Puts};
 ghost use Rattle.lines.specs.Lines.{Writes, header_text, field as fieldText, labelled as labelledText, event_text, line_text, totals_text, ending_text};
 ghost use Rattle.std.specs.Prelude.{◌+◌, ◌≤◌, length};
 
 // What became of a frame.
-#[derive(Drop)]
+#[derive(Clone, Copy)]
 pub enum Event {
     // read, with what it says
     Read(telegram::Fields),
@@ -18,7 +20,7 @@ pub enum Event {
 }
 
 // A frame's event, and the place of its 13.
-#[derive(Drop)]
+#[derive(Clone, Copy)]
 pub struct Placed {
     pub place: u64,
     pub event: Event,

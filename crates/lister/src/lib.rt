@@ -1,5 +1,7 @@
 // Captures that come in chunks, as text: the lines of a chunk in a room that somebody lent, and the
 // totals. specs/ says what each call writes.
+#![tactic(auto)]
+
 mod pour;
 
 pub use pour::{begin, finish, list};
@@ -11,7 +13,7 @@ pub const LONGEST_LINE: usize = 150;
 
 // A listing so far: the receiver, the tally that is lent to each step, and how many lines of each kind
 // there were.
-#[derive(Drop)]
+#[derive(Clone, Copy)]
 pub struct Listing {
     pub receiver: Receiver,
     pub tally: Tally,
@@ -21,7 +23,7 @@ pub struct Listing {
 }
 
 // How many of some lines are of each kind.
-#[derive(Drop)]
+#[derive(Clone, Copy)]
 struct Kinds {
     ok: u64,
     refused: u64,
@@ -29,21 +31,21 @@ struct Kinds {
 }
 
 // A step of the receiver, and the tally that was lent to it.
-#[derive(Drop)]
+#[derive(Clone, Copy)]
 struct Lent {
     tally: Tally,
     stepped: Stepped,
 }
 
 // What became of a chunk that was to be listed.
-#[derive(Drop)]
+#[derive(Clone, Copy)]
 pub enum Outcome {
     Done,
     Refused(Fault),
 }
 
 // The listing afterwards, how many bytes of the chunk it took, and how many bytes of text it wrote.
-#[derive(Drop)]
+#[derive(Clone, Copy)]
 pub struct Listed {
     pub listing: Listing,
     pub taken: usize,

@@ -1,10 +1,12 @@
 // One mark for each place, up to 128 of them: bit p % 64 of the word for p is the mark of place p, the
 // low word for 0 to 63, the high one for 64 to 127. specs/ says what each call answers.
+#![tactic(auto)]
+
 ghost use Rattle.marks.specs.Marks.{Begins, TellsMarked, Changes, Runs, word_of, changed_bit};
 ghost use Rattle.std.specs.Prelude.{◌≡◌, ◌<◌};
 
 #[repr(C)]
-#[derive(Drop)]
+#[derive(Clone, Copy)]
 pub struct Marks {
     pub low: u64,
     pub high: u64,

@@ -1,5 +1,7 @@
 // The night listing of a captured line, from standard input to standard output, as it comes and
 // however long it is. The library says what is written; this program only reads, calls and writes.
+#![tactic(auto)]
+
 ghost use Rattle.night.specs.Turns.{Onward, Carries};
 ghost use Rattle.std.specs.Prelude.{◌≡◌, true, ◌≤◌, ◌<◌, length};
 
@@ -14,7 +16,7 @@ const WORD_FILENO: i32 = 3;
 const ROOM: usize = 256;
 
 // A listing behind some more bytes, and whether it is over: to its end, or where something failed.
-#[derive(Drop)]
+#[derive(Clone, Copy)]
 struct Turn {
     listing: Listing,
     over: bool,

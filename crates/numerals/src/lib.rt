@@ -1,12 +1,14 @@
 // Numbers as an operator writes them in a word: decimal digits, or 0x and hex digits, and a minus
 // before them or none. `specs/Numerals.antt` says what a word means.
+#![tactic(auto)]
+
 ghost use Rattle.std.specs.Prelude.{◌≡◌, ◌≤◌, cond};
 ghost use Rattle.numerals.specs.Numerals.{Tells, Reads, Limits, digit_of, are_digits, worth, is_minus, unsigned_at, is_hex, base_of, figures_at, amount_of, amount_as, below, under};
 
 use values::Value;
 
 // How much digits are worth.
-#[derive(Drop)]
+#[derive(Clone, Copy)]
 enum Amount {
     Is(u64),
     // 64 bits do not hold it
@@ -14,7 +16,7 @@ enum Amount {
 }
 
 // The integer that a word is.
-#[derive(Drop)]
+#[derive(Clone, Copy)]
 pub enum Numeral {
     Is(Value),
     // a number whose digits 64 bits do not hold, and so one that no register holds

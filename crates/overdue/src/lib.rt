@@ -1,12 +1,14 @@
 // Expires everything that is due at the desk, in one pass over the addresses. It stands above the
 // desk, on its promises: `specs/Overdue.antt` says that it does what single expiries would do.
+#![tactic(auto)]
+
 ghost use Rattle.std.specs.Prelude.{◌/◌, ◌<◌, length};
 ghost use Rattle.overdue.specs.Overdue.{ExpiresAll, LooksAt};
 
 use desk::Desk;
 
 // The desk afterwards, and how many entries were filled.
-#[derive(Drop)]
+#[derive(Clone, Copy)]
 pub struct Swept {
     pub desk: Desk,
     pub count: usize,

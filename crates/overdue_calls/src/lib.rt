@@ -1,4 +1,6 @@
 // The call `desk.expall`. A part of the test tool `rehearsal`.
+#![tactic(auto)]
+
 ghost use Rattle.std.specs.Prelude.{◌≤◌, length};
 
 use desk::Desk;
@@ -11,7 +13,7 @@ pub const ENTRIES: usize = 200;
 pub const UNUSED: u32 = 4294967295;
 
 // The desk after the call, and how long the answer is.
-#[derive(Drop)]
+#[derive(Clone, Copy)]
 pub struct Answered {
     pub desk: Desk,
     pub at: usize,

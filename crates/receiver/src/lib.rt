@@ -1,5 +1,7 @@
 // Captures that come in chunks: the receiver keeps what is needed of the bytes so far, and no
 // more, however long the capture grows. specs/ says what each call answers.
+#![tactic(auto)]
+
 mod seek;
 mod steps;
 
@@ -14,7 +16,7 @@ pub const MOST_KEPT: usize = 494;
 // What is known of the bytes so far. Places count from 0. Outside a frame the size and the start
 // are 0, and the bytes too.
 #[repr(C)]
-#[derive(Drop)]
+#[derive(Clone, Copy)]
 pub struct Receiver {
     // how many bytes were taken: the place of the next one
     pub place: u64,
@@ -26,14 +28,14 @@ pub struct Receiver {
 }
 
 // Why a chunk was not taken.
-#[derive(Drop)]
+#[derive(Clone, Copy)]
 pub enum Fault {
     // a place would pass the largest, 2^64 - 1
     PastLargest,
 }
 
 // What a step answers.
-#[derive(Drop)]
+#[derive(Clone, Copy)]
 pub enum Answer {
     // no line ends in the chunk
     Nothing,
@@ -44,7 +46,7 @@ pub enum Answer {
 }
 
 // A step's outcome: the receiver afterwards, and how many bytes of the chunk it took.
-#[derive(Drop)]
+#[derive(Clone, Copy)]
 pub struct Stepped {
     pub receiver: Receiver,
     pub taken: usize,

@@ -1,5 +1,7 @@
 // The calls on the receiver and on the tally that is lent to it. Each takes the line and gives it back
 // as it is afterwards. A part of the test tool `rehearsal`.
+#![tactic(auto)]
+
 ghost use Rattle.std.specs.Prelude.{◌≤◌, length};
 
 use lines::Event;
@@ -12,7 +14,7 @@ const ROOM: usize = 256;
 
 // The line as it is listened to: the receiver, the tally, and how many lines of each kind there were
 // since the receiver was made.
-#[derive(Drop)]
+#[derive(Clone, Copy)]
 pub struct Line {
     pub receiver: Receiver,
     pub tally: Tally,
@@ -22,7 +24,7 @@ pub struct Line {
 }
 
 // The line after a call, and how long its answer is.
-#[derive(Drop)]
+#[derive(Clone, Copy)]
 pub struct Heard {
     pub line: Line,
     pub at: usize,
@@ -135,7 +137,7 @@ fn feed(l: Line, w: Words, line: &[u8], out: &mut [u8]) -> Heard {
 
 // A chunk so far: how much of it was taken, where the text of its lines ends, and the number of the
 // refusal that ended it, 0 for none.
-#[derive(Drop)]
+#[derive(Clone, Copy)]
 struct Fed {
     line: Line,
     taken: usize,

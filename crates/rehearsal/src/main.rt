@@ -1,6 +1,8 @@
 // Rehearses a night without a rig: reads call lines from standard input to its end and writes one
 // answer line for each. It calls the library's public functions and decides nothing itself. Where it
 // cannot read on or cannot write an answer, it says so on standard error and ends.
+#![tactic(auto)]
+
 use bench::Bench;
 use desk::Desk;
 use desk_calls::Heard;
@@ -23,7 +25,7 @@ const LONGEST: usize = 65536;
 const LONGEST_ANSWER: usize = 16 * LONGEST;
 
 // What the calls so far have made. The bench, the filter box and the scan count once one was made.
-#[derive(Drop)]
+#[derive(Clone, Copy)]
 struct Made {
     desk: Desk,
     lanes: Lanes,
@@ -38,7 +40,7 @@ struct Made {
 
 // What is gathered of the line that has not ended yet, how many answers were written, and whether
 // one was lost, after which nothing is answered any more.
-#[derive(Drop)]
+#[derive(Clone, Copy)]
 struct Gathered {
     used: usize,
     long: bool,
@@ -48,7 +50,7 @@ struct Gathered {
 }
 
 // What the calls have made after one more, and how long its answer is.
-#[derive(Drop)]
+#[derive(Clone, Copy)]
 struct Said {
     made: Made,
     at: usize,

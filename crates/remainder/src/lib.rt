@@ -1,5 +1,7 @@
 // The check of a telegram: the remainder of its bytes, as a polynomial over GF(2), times x^16,
 // divided by x^16 + x^12 + x^5 + 1. `specs/Remainder.antt` says what that is.
+#![tactic(auto)]
+
 ghost use Rattle.remainder.specs.Remainder.{Remains, times_xs, with_byte};
 ghost use Rattle.std.specs.Prelude.{◌≡◌, ℕ, ◌*◌, ◌^◌, ◌<◌, get_or};
 

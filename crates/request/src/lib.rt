@@ -1,4 +1,6 @@
 // A request before it is sent: rows 10 to 14, which need no desk. specs/ says what each call answers.
+#![tactic(auto)]
+
 ghost use Rattle.request.specs.Request.{Asks, Numbers, one_to, is_request, is_wrong_data};
 ghost use Rattle.std.specs.Prelude.{◌≡◌};
 
@@ -8,7 +10,7 @@ use telegram::{CLEAR_BITS, MOST_DATA, READ, SET_BITS, TOGGLE_BITS, WRITE};
 // telegram, `wait` how long its reply is waited for, in milliseconds, `folder` where the job files
 // what comes, 0 for nowhere.
 #[repr(C)]
-#[derive(Drop)]
+#[derive(Clone, Copy)]
 pub struct Request {
     pub job: u32,
     pub unit: u8,
@@ -19,7 +21,7 @@ pub struct Request {
 }
 
 // Why a request may not be sent.
-#[derive(Drop)]
+#[derive(Clone, Copy)]
 pub enum Fault {
     NoJob,
     NotAModule,
@@ -28,7 +30,7 @@ pub enum Fault {
     WrongWait,
 }
 
-#[derive(Drop)]
+#[derive(Clone, Copy)]
 pub enum Asking {
     Allowed,
     Denied(Fault),

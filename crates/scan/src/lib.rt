@@ -1,6 +1,8 @@
 // Who is on the line: a scan at the start of a shift, above the desk and on its promises only. It asks
 // module by module, 1 to 160, for register 61h, and keeps what became of each of these tickets.
 // specs/ says what each call answers.
+#![tactic(auto)]
+
 ghost use Rattle.scan.specs.Scan.{Makes, Steps, HearsReply, HearsClosing, Looks, Passes, Stays, answer_of, is_its_own, turn_over, now_out};
 ghost use Rattle.std.specs.Prelude.{◌≡◌};
 
@@ -26,7 +28,7 @@ const WAIT: u32 = 100;
 // A scan so far, for a job. It learns what became of its ticket only by what the desk answers, so every
 // booked, cancelled and expired ticket is told to it, whoever made that call.
 #[repr(C)]
-#[derive(Drop)]
+#[derive(Clone, Copy)]
 pub struct Scan {
     pub job: u32,
     // how many turns are over: the module after these is asked next
@@ -37,7 +39,7 @@ pub struct Scan {
     pub results: [u8; 160],
 }
 
-#[derive(Drop)]
+#[derive(Clone, Copy)]
 pub enum Stepping {
     // a ticket was opened: its host address, the module that it asks, the length of its telegram
     Asked(u8, u8, usize),
@@ -50,7 +52,7 @@ pub enum Stepping {
 }
 
 // A step's answer, with the scan and the desk as they are afterwards.
-#[derive(Drop)]
+#[derive(Clone, Copy)]
 pub struct AfterStep {
     pub scan: Scan,
     pub desk: Desk,
@@ -59,7 +61,7 @@ pub struct AfterStep {
     pub count: u8,
 }
 
-#[derive(Drop)]
+#[derive(Clone, Copy)]
 pub enum Found {
     NotYet,
     Absent,

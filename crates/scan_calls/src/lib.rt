@@ -1,5 +1,7 @@
 // The calls on the scan. Each takes the scan and the desk and gives them back as they are afterwards.
 // And who is told what the desk answered. A part of the test tool `rehearsal`.
+#![tactic(auto)]
+
 use desk::{Closing, Desk};
 use desk_calls::Heard;
 use scan::{Found, Scan, Stepping};
@@ -7,7 +9,7 @@ use varia::FilterBox;
 use words::{Words, count, word32};
 
 // What there is: the desk, the scan, and whether one was made.
-#[derive(Drop)]
+#[derive(Clone, Copy)]
 pub struct Shift {
     pub desk: Desk,
     pub scan: Scan,
@@ -15,7 +17,7 @@ pub struct Shift {
 }
 
 // The same after a call, and how long the answer is.
-#[derive(Drop)]
+#[derive(Clone, Copy)]
 pub struct Scanned {
     pub shift: Shift,
     pub at: usize,
@@ -169,7 +171,7 @@ fn bad(shift: Shift, out: &mut [u8]) -> Scanned {
 }
 
 // Who is told what the desk answered, whoever asked: the filter box and the scan.
-#[derive(Drop)]
+#[derive(Clone, Copy)]
 pub struct Hearers {
     pub filters: FilterBox,
     pub scan: Scan,

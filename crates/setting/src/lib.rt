@@ -1,6 +1,8 @@
 // A setting: what a register of a module is to hold. Settings are named by rows of 8 bytes: module,
 // register, kind, element count, and a number of 4 bytes. Here is what a row says, which are allowed,
 // and whether they rise; `specs/Setting.antt` says so.
+#![tactic(auto)]
+
 ghost use Rattle.setting.specs.Setting.{Numbers, Measures, Allows, NamesRow, TellsRow, FindsFall, FindsUnfit, FindsPlace, Rises};
 
 // How many bytes a row has.
@@ -11,7 +13,7 @@ pub const MOST: usize = 128;
 
 // What a row begins with: of which register the value is, and what value it is.
 #[repr(C)]
-#[derive(Drop)]
+#[derive(Clone, Copy)]
 pub struct Head {
     pub unit: u8,
     pub register: u8,
@@ -20,7 +22,7 @@ pub struct Head {
 }
 
 // Why a sheet, or the settings for one, were refused.
-#[derive(Drop)]
+#[derive(Clone, Copy)]
 pub enum Fault {
     ShortSheet,
     OtherVersion,

@@ -1,4 +1,6 @@
 // Settings sheets: checking one, and reading a record of it. `specs/Sheet.antt` says what a sheet is.
+#![tactic(auto)]
+
 ghost use Rattle.std.specs.Prelude.{◌≡◌, ◌+◌, ◌*◌, ◌≤◌, length};
 ghost use Rattle.std.proofs.Math.Option.{none};
 ghost use Rattle.sheet.specs.Sheet.{Checks, Reads, ChecksRecords, Shows, field_at, count_in, is_wrong_header, is_misplaced, check_refusal};
@@ -13,20 +15,20 @@ pub const HEADER: usize = 12;
 const VERSION: usize = 1;
 
 // How many records a right sheet has.
-#[derive(Drop)]
+#[derive(Clone, Copy)]
 pub enum Checked {
     Right(usize),
     Refused(Fault),
 }
 
 // What a record names, and how many bytes its value has.
-#[derive(Drop)]
+#[derive(Clone, Copy)]
 pub struct Record {
     pub head: Head,
     pub size: usize,
 }
 
-#[derive(Drop)]
+#[derive(Clone, Copy)]
 pub enum Reading {
     Is(Record),
     Refused(Fault),

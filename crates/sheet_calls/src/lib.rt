@@ -1,5 +1,7 @@
 // The calls `sheet.write`, `sheet.check`, `sheet.read`, `sheet.rem`, `sheet.remmod` and `sheet.add`.
 // A part of the test tool `rehearsal`.
+#![tactic(auto)]
+
 use setting::{Head, ROW};
 use sheet::{Checked, Reading};
 use sheet_editor::Editing;
@@ -67,7 +69,7 @@ fn written(answer: Writing, out: &mut [u8]) -> usize {
 
 // Settings that were taken: how many bytes their rows and their values have, and the words behind
 // them, which are not good any more once a setting did not parse or was one too many.
-#[derive(Drop)]
+#[derive(Clone, Copy)]
 struct Settings {
     words: Words,
     rows: usize,
@@ -109,7 +111,7 @@ fn take_setting(before: Settings, text: &[u8], rows: &mut [u8], values: &mut [u8
 }
 
 // A setting whose value is in a lent room: its head, the value's length, and whether it parsed.
-#[derive(Drop)]
+#[derive(Clone, Copy)]
 struct Setting {
     good: bool,
     head: Head,

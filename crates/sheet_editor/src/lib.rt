@@ -1,6 +1,8 @@
 // Settings thrown out of a sheet, and one added, within the buffer that the sheet stands in: the bytes
 // that stay are moved, and nothing is copied elsewhere. `specs/Editor.antt` says what comes of it, and
 // `sheet/specs/Sheet.antt` what a sheet is.
+#![tactic(auto)]
+
 ghost use Rattle.std.specs.Prelude.{◌≡◌, cond, ◌&&◌, ◌+◌, ◌-◌, ◌*◌, ◌≤◌, ltb, length, take, drop};
 ghost use Rattle.std.proofs.Math.Option.{none};
 ghost use Rattle.first.specs.First.{first_place};
@@ -15,7 +17,7 @@ use sheet::{Checked, HEADER};
 const LAST: u8 = 160;
 
 // Why a sheet stays as it is.
-#[derive(Drop)]
+#[derive(Clone, Copy)]
 pub enum Fault {
     // the stated length is over the buffer
     Overstated,
@@ -34,14 +36,14 @@ pub enum Fault {
 }
 
 // How long the sheet is now.
-#[derive(Drop)]
+#[derive(Clone, Copy)]
 pub enum Editing {
     Edited(usize),
     Refused(Fault),
 }
 
 // How many records a right sheet has, or why nothing is done.
-#[derive(Drop)]
+#[derive(Clone, Copy)]
 enum Judged {
     Right(usize),
     Wrong(Fault),

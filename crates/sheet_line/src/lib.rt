@@ -1,5 +1,7 @@
 // One line of a sheet's text, read and written: `module register kind count values..`. docs/SHEETS.md
 // says what a line is, and `specs/` the same in definitions.
+#![tactic(auto)]
+
 mod reading;
 mod words;
 mod writing;
@@ -11,7 +13,7 @@ use sheet::Record;
 
 // What is wrong with a line, in the order in which it is looked for. A word is told by its place,
 // from 1 on.
-#[derive(Drop)]
+#[derive(Clone, Copy)]
 pub enum Fault {
     // it has one to three words
     FewWords,
@@ -34,7 +36,7 @@ pub enum Fault {
 }
 
 // What a line says.
-#[derive(Drop)]
+#[derive(Clone, Copy)]
 pub enum Line {
     // nothing: it has no words
     Nothing,

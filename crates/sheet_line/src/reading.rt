@@ -16,7 +16,7 @@ use sheet::Record;
 use values::Stored;
 
 // What the first four words say, and where the values begin. A number that is none of a byte is 256.
-#[derive(Drop)]
+#[derive(Clone, Copy)]
 struct Four {
     unit: u64,
     register: u64,
@@ -26,13 +26,13 @@ struct Four {
 }
 
 // One word of them, and where the next begins.
-#[derive(Drop)]
+#[derive(Clone, Copy)]
 struct Behind {
     number: u64,
     at: usize,
 }
 
-#[derive(Drop)]
+#[derive(Clone, Copy)]
 enum Judged {
     Right(Head),
     Wrong(Fault),

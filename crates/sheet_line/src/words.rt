@@ -4,7 +4,7 @@ ghost use Rattle.sheet_line.specs.Words.{plain, is_blank, parted, words_in, same
 ghost use Rattle.sheet_line.specs.Line.{kind_of};
 
 // Where a word stands in a line: from its first byte up to the one behind its last.
-#[derive(Drop)]
+#[derive(Clone, Copy)]
 pub(crate) struct Span {
     pub from: usize,
     pub to: usize,

@@ -14,7 +14,7 @@ const ORDER: u8 = 10;
 
 // What was gathered so far: how many settings, how long their values are together, the nearest one
 // before, how many lines were bad, and how many numbers were told of them.
-#[derive(Drop)]
+#[derive(Clone, Copy)]
 pub(crate) struct Page {
     pub many: usize,
     pub size: usize,

@@ -1,6 +1,8 @@
 // A settings sheet made of a text, one setting added by a line of text, and a record found by its
 // module and register. docs/SHEETS.md says what a text is, and `specs/Maker.antt` the same in
 // definitions.
+#![tactic(auto)]
+
 mod gathering;
 
 ghost use Rattle.std.specs.Prelude.{◌≡◌};
@@ -16,7 +18,7 @@ use sheet_line::Line;
 use sheet_writer::Writing;
 
 // How long the sheet of a text is, how many of its lines are bad, or why none is written.
-#[derive(Drop)]
+#[derive(Clone, Copy)]
 pub enum Making {
     Made(usize),
     Wrong(usize),
@@ -24,7 +26,7 @@ pub enum Making {
 }
 
 // How long the sheet is with the new setting, what is wrong with its line, or why it stays as it is.
-#[derive(Drop)]
+#[derive(Clone, Copy)]
 pub enum Adding {
     Added(usize),
     Wrong(sheet_line::Fault),

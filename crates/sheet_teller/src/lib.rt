@@ -1,5 +1,7 @@
 // A settings sheet told as text: a line for each setting, or a call for each of its write requests.
 // docs/SHEETS.md says what the text is, and `specs/Teller.antt` the same in definitions.
+#![tactic(auto)]
+
 mod pieces;
 
 ghost use Rattle.std.specs.Prelude.{◌≡◌, length};
@@ -13,7 +15,7 @@ use sheet::{Checked, HEADER};
 
 // Who asks for the registers of a sheet to be set, how long each reply is waited for, and at what
 // clock reading.
-#[derive(Drop)]
+#[derive(Clone, Copy)]
 pub struct Order {
     pub job: u32,
     pub wait: u32,
@@ -21,14 +23,14 @@ pub struct Order {
 }
 
 // What a setting is told as.
-#[derive(Drop)]
+#[derive(Clone, Copy)]
 enum Form {
     Lines,
     Calls(Order),
 }
 
 // Why a sheet is not told.
-#[derive(Drop)]
+#[derive(Clone, Copy)]
 pub enum Fault {
     // the sheet isn't right
     WrongSheet(setting::Fault),
@@ -39,7 +41,7 @@ pub enum Fault {
 }
 
 // How long the text is.
-#[derive(Drop)]
+#[derive(Clone, Copy)]
 pub enum Telling {
     Told(usize),
     Refused(Fault),

@@ -1,5 +1,7 @@
 // Writing a settings sheet. `specs/Writer.antt` says how settings are handed over, and
 // `sheet/specs/Sheet.antt` what their sheet is.
+#![tactic(auto)]
+
 ghost use Rattle.std.specs.Prelude.{◌≡◌, false, ◌+◌, ◌*◌, ◌/◌, ◌≤◌, length, take, drop};
 ghost use Rattle.lent.specs.Lent.{over_at};
 ghost use Rattle.setting.specs.Setting.{rows_in, heads};
@@ -10,7 +12,7 @@ use setting::{Fault, Head, MOST, ROW};
 use sheet::HEADER;
 
 // How long the sheet is that was written.
-#[derive(Drop)]
+#[derive(Clone, Copy)]
 pub enum Writing {
     Written(usize),
     Refused(Fault),

@@ -1,6 +1,8 @@
 // Settings sheets in the operators' hands: made of a text, shown and changed, from standard input to
 // standard output, by the program's arguments. docs/SHEETS.md says what is written. The library
 // decides it; this program only reads, calls and writes.
+#![tactic(auto)]
+
 ghost use Rattle.std.specs.Prelude.{◌≤◌, length};
 
 use libc::{STDIN_FILENO, STDOUT_FILENO};
@@ -34,7 +36,7 @@ const ROOM: usize = 128;
 const LARGEST: u32 = 4294967295;
 
 // What the arguments ask for, by module and register. The line of `Add` is read where it is added.
-#[derive(Drop)]
+#[derive(Clone, Copy)]
 enum Command {
     Make,
     Show,
@@ -47,7 +49,7 @@ enum Command {
 }
 
 // How many bytes were read, and whether they are all there are or as many as there is space for.
-#[derive(Drop)]
+#[derive(Clone, Copy)]
 struct Input {
     size: usize,
     whole: bool,

@@ -1,6 +1,8 @@
 // Desks and benches that no call made. Every call answers them all the same, as its contract says. No
 // call line can make them, so what is expected was worked out by hand from the contracts, as said
 // below. The telegrams' bytes are the model's.
+#![tactic(auto)]
+
 use bench::{Bench, Register};
 use desk::{Desk, Request, Ticket};
 use libc::STDOUT_FILENO;

@@ -1,5 +1,7 @@
 // The line tally: how many frames were read, refused and dropped, one record that is lent to each
 // listing step and changed where it lies. specs/ says what each call answers.
+#![tactic(auto)]
+
 mod counting;
 mod lending;
 
@@ -15,7 +17,7 @@ pub const MOST: u32 = 4294967295;
 
 // How many lines of each kind there were since it was cleared.
 #[repr(C)]
-#[derive(Drop)]
+#[derive(Clone, Copy)]
 pub struct Tally {
     pub read: u32,
     pub refused: u32,
@@ -23,7 +25,7 @@ pub struct Tally {
 }
 
 // Why a step was not done.
-#[derive(Drop)]
+#[derive(Clone, Copy)]
 pub enum Fault {
     // its line would carry a number of the tally past the most
     TallyFull,
@@ -32,7 +34,7 @@ pub enum Fault {
 }
 
 // What a step answers.
-#[derive(Drop)]
+#[derive(Clone, Copy)]
 pub enum Answer {
     // no line ends in the chunk
     Nothing,
@@ -43,7 +45,7 @@ pub enum Answer {
 }
 
 // A step's outcome: the receiver afterwards, and how many bytes of the chunk it took.
-#[derive(Drop)]
+#[derive(Clone, Copy)]
 pub struct Stepped {
     pub receiver: Receiver,
     pub taken: usize,
@@ -51,7 +53,7 @@ pub struct Stepped {
 }
 
 // The same with the tally afterwards.
-#[derive(Drop)]
+#[derive(Clone, Copy)]
 pub struct Counted {
     pub tally: Tally,
     pub stepped: Stepped,

@@ -1,5 +1,7 @@
 // Telegrams read and written. A telegram is a message between a start byte and an end byte, with
 // the bytes that mean start, end or substitution converted. specs/ says what each call answers.
+#![tactic(auto)]
+
 mod reader;
 mod writer;
 
@@ -40,7 +42,7 @@ const SHORTEST: usize = 6;
 const LONGEST: usize = 246;
 
 // Why a frame could not be read, or a telegram not be written.
-#[derive(Drop)]
+#[derive(Clone, Copy)]
 pub enum Fault {
     NotFramed,
     StrayEnd,
@@ -57,7 +59,7 @@ pub enum Fault {
 
 // What a telegram says, but for its data: `sort` is the message type, from 0 nack to 9 toggle
 // bits, and `size` how many data bytes there are.
-#[derive(Drop)]
+#[derive(Clone, Copy)]
 pub struct Fields {
     pub destination: u8,
     pub source: u8,
@@ -67,19 +69,19 @@ pub struct Fields {
 }
 
 // What a group of rows says of a frame.
-#[derive(Drop)]
+#[derive(Clone, Copy)]
 enum Judged {
     Sound,
     Unsound(Fault),
 }
 
-#[derive(Drop)]
+#[derive(Clone, Copy)]
 pub enum Reading {
     Telegram(Fields),
     Refused(Fault),
 }
 
-#[derive(Drop)]
+#[derive(Clone, Copy)]
 pub enum Writing {
     // How long the telegram is.
     Written(usize),

@@ -1,4 +1,6 @@
 // The calls `rem`, `read` and `write`. A part of the test tool `rehearsal`.
+#![tactic(auto)]
+
 use telegram::{Fields, Reading, Writing};
 use words::{Words, byte, count};
 
@@ -74,7 +76,7 @@ pub fn write(w: Words, line: &[u8], out: &mut [u8]) -> usize {
 }
 
 // The four fields that a telegram begins with, and the words behind them.
-#[derive(Drop)]
+#[derive(Clone, Copy)]
 struct Four {
     words: Words,
     destination: u8,

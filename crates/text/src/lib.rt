@@ -1,4 +1,6 @@
 // Numbers as text, laid over a buffer that somebody lent.
+#![tactic(auto)]
+
 ghost use Rattle.text.specs.Text.{Spells, decimal};
 ghost use Rattle.std.specs.Prelude.{◌≡◌, ◌+◌, ◌%◌, ◌<◌, length, drop};
 

@@ -1,6 +1,8 @@
 // What stands on a host address: a ticket that waits for its reply, or what is kept of one that was
 // cancelled or expired, or nothing. Which reply fits it, rows 61 and 17 to 20, when it is due, when
 // the address may be given out, and whom it keeps off its folder. specs/ says what each call answers.
+#![tactic(auto)]
+
 ghost use Rattle.ticket.specs.Due.{TellsDue};
 ghost use Rattle.ticket.specs.Folder.{TellsBarred};
 ghost use Rattle.ticket.specs.Fit.{Judges, Numbers, kind_fits, register_fits, wanted_for};
@@ -13,7 +15,7 @@ use telegram::{ACK, BUSY, DATAGRAM, READ};
 // A ticket is live while it is open. Of one that was cancelled or expired is kept that it was, and
 // when, until the address is given out again; all else is zero.
 #[repr(C)]
-#[derive(Drop)]
+#[derive(Clone, Copy)]
 pub struct Ticket {
     pub live: bool,
     pub asked: Request,
@@ -43,7 +45,7 @@ pub const NO_TICKET: Ticket = Ticket {
 const REST: u32 = 1000;
 
 // Why a reply does not fit.
-#[derive(Drop)]
+#[derive(Clone, Copy)]
 pub enum Fault {
     // the last ticket there was cancelled or expired
     Withdrawn,
@@ -53,7 +55,7 @@ pub enum Fault {
     OtherRegister,
 }
 
-#[derive(Drop)]
+#[derive(Clone, Copy)]
 pub enum Judged {
     Fits,
     Misfit(Fault),

@@ -1,11 +1,13 @@
 // Register values: the seven kinds of number that a register holds, their bytes, and bit writes.
 // `specs/Values.antt` says what each call answers.
+#![tactic(auto)]
+
 ghost use Rattle.std.specs.Prelude.{◌≡◌, ◌*◌, ◌-◌, ◌^◌, ◌≤◌, ◌<◌};
 ghost use Rattle.values.specs.Values.{Numbers, Sizes, Loads, Stores, Keeps, Reads, Writes, Sets, Clears, Toggles, TestsBit, size_of, is_signed, value_at, greatest};
 
 // An integer from -2^63 to 2^64 - 1, each in one form only. (A `Negative` can hold numbers below
 // that too; no kind takes them.)
-#[derive(Drop)]
+#[derive(Clone, Copy)]
 pub enum Value {
     // The number itself.
     Natural(u64),
@@ -14,7 +16,7 @@ pub enum Value {
 }
 
 // Why a value could not be read or written.
-#[derive(Drop)]
+#[derive(Clone, Copy)]
 pub enum Fault {
     UnknownKind,
     WrongLength,
@@ -24,19 +26,19 @@ pub enum Fault {
 }
 
 // The number whose lowest bytes a register of that kind holds, or the refusal.
-#[derive(Drop)]
+#[derive(Clone, Copy)]
 pub enum Stored {
     As(u64),
     Refused(Fault),
 }
 
-#[derive(Drop)]
+#[derive(Clone, Copy)]
 pub enum Reading {
     Is(Value),
     Refused(Fault),
 }
 
-#[derive(Drop)]
+#[derive(Clone, Copy)]
 pub enum Writing {
     Done,
     Refused(Fault),

@@ -1,4 +1,6 @@
 // The calls `val.get`, `val.put` and `cat`. A part of the test tool `rehearsal`.
+#![tactic(auto)]
+
 use values::{Reading, Value, Writing};
 use words::{Words, byte, count};
 

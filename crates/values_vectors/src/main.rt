@@ -9,6 +9,8 @@
 //     fill NUMBER SIZE ROOM       so many bytes of a number stored into the first ROOM of ten
 //     mask NUMBER MASK            set, cleared and toggled
 //     bit NUMBER PLACE
+#![tactic(auto)]
+
 use libc::{STDIN_FILENO, STDOUT_FILENO};
 use values::{Fault, Stored, Value};
 use words::{Words, byte, count};

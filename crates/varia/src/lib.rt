@@ -1,5 +1,7 @@
 // A VARIA filter box for the operators, above the library and on its promises only: edges, attenuation and
 // readings by name, and the house rule on the edges. specs/ says what each call answers.
+#![tactic(auto)]
+
 ghost use Rattle.varia.specs.Box.{Makes, HearsReply, HearsClosing, Numbers, request, edge_register, is_out, is_out_of_order, edge_of, other, with_out, with_edge};
 ghost use Rattle.varia.specs.Ask.{SetsEdge, Attenuates, ReadsMonitor, ReadsStatus, Stays, Passes, now_out};
 ghost use Rattle.varia.specs.Display.{Displays, TellsMoving};
@@ -13,21 +15,21 @@ use desk::{AfterOpen, Booking, Closing, Opening, Request};
 use telegram::{ACK, READ, WRITE};
 
 // An edge as last acknowledged, in tenths of a nanometre.
-#[derive(Drop)]
+#[derive(Clone, Copy)]
 pub enum Edge {
     Unknown,
     Known(u16),
 }
 
 // Which edge: that of the short-pass filter or that of the long-pass filter.
-#[derive(Drop)]
+#[derive(Clone, Copy)]
 pub enum Pass {
     Short,
     Long,
 }
 
 // The request to set an edge that is out.
-#[derive(Drop)]
+#[derive(Clone, Copy)]
 pub enum Out {
     Nothing,
     // the host address of its ticket, which edge, and the value that it asks for
@@ -36,7 +38,7 @@ pub enum Out {
 
 // The box at a module, `unit`, for a job. It learns of an edge only by what the desk answers, so every
 // booked, cancelled and expired ticket is told to it, whoever made that call.
-#[derive(Drop)]
+#[derive(Clone, Copy)]
 pub struct FilterBox {
     pub job: u32,
     pub unit: u8,
@@ -46,7 +48,7 @@ pub struct FilterBox {
 }
 
 // Why a request was not sent.
-#[derive(Drop)]
+#[derive(Clone, Copy)]
 pub enum Fault {
     // a request to set an edge is out
     EdgeOut,
@@ -58,7 +60,7 @@ pub enum Fault {
     AtDesk(desk::Fault),
 }
 
-#[derive(Drop)]
+#[derive(Clone, Copy)]
 pub enum Asking {
     // the host address that was given, and the length of the request telegram
     Opened(u8, usize),
@@ -66,7 +68,7 @@ pub enum Asking {
 }
 
 // A call's answer, with the box and the desk as they are afterwards.
-#[derive(Drop)]
+#[derive(Clone, Copy)]
 pub struct AfterAsk {
     pub filters: FilterBox,
     pub desk: Desk,

@@ -1,11 +1,13 @@
 // The calls on the filter box. Each takes the box and the desk and gives them back as they are
 // afterwards. A part of the test tool `rehearsal`.
+#![tactic(auto)]
+
 use desk::Desk;
 use varia::{AfterAsk, Asking, Edge, Fault, FilterBox, Out, Pass};
 use words::{Words, byte, count, word32};
 
 // What there is: the desk, the box, and whether one was made.
-#[derive(Drop)]
+#[derive(Clone, Copy)]
 pub struct Rig {
     pub desk: Desk,
     pub filters: FilterBox,
@@ -13,7 +15,7 @@ pub struct Rig {
 }
 
 // The same after a call, and how long the answer is.
-#[derive(Drop)]
+#[derive(Clone, Copy)]
 pub struct Filtered {
     pub rig: Rig,
     pub at: usize,
@@ -41,7 +43,7 @@ pub fn answer(rig: Rig, w: Words, line: &[u8], out: &mut [u8]) -> Filtered {
 }
 
 // What is asked for.
-#[derive(Drop)]
+#[derive(Clone, Copy)]
 enum Wanted {
     Short,
     Long,
@@ -126,7 +128,7 @@ fn ask(rig: Rig, wanted: Wanted, w: Words, line: &[u8], out: &mut [u8]) -> Filte
 }
 
 // Up to the buffer: the value, where there is one, the waiting time and the clock.
-#[derive(Drop)]
+#[derive(Clone, Copy)]
 struct Terms {
     words: Words,
     value: u16,

@@ -1,6 +1,8 @@
 // The words of a call line: parted by one blank, numbers in decimal, bytes in lower-case hex with
 // `-` for none. The parts of a word that is a list are taken in the same way, with another byte
 // between them. A part of the test tool `rehearsal`, and of test programs whose calls are lines.
+#![tactic(auto)]
+
 ghost use Rattle.io.specs.Counts.{IsPrefixLen};
 ghost use Rattle.std.specs.Prelude.{◌≡◌, ◌+◌, ◌*◌, ◌≤◌, max, true, length};
 
@@ -13,7 +15,7 @@ const NO_BYTES: u64 = 18446744073709551615;
 // How far a line was read. `at` is where the next word starts, one past the line's end once its
 // last word was taken; `good` turns false for good when a word is missing or does not parse. Then
 // what the last word was: its place, or its number and sign. `between` is the byte between words.
-#[derive(Drop)]
+#[derive(Clone, Copy)]
 pub struct Words {
     pub at: usize,
     pub good: bool,
