@@ -14,6 +14,7 @@ import os
 import re
 
 HERE = os.path.dirname(os.path.realpath(__file__))
+CAMEL = re.compile(r"[a-z][a-z0-9]*[A-Z]")  # in src/ no function or variable is spelled so, only words of clauses
 TOKEN = re.compile(r"«[^»]*»|\"[^\"\n]*\"|[^\s(){}\[\],;.:=«»\"`]+")
 
 
@@ -32,7 +33,7 @@ def respelled(text, names, fields, walk, source):
     def one(m):
         word = m.group(0)
         new = names.get(word)
-        if new is None or (source and "-" in word):
+        if new is None or (source and not CAMEL.match(word)):
             return word
         dotted = m.start() > 0 and text[m.start() - 1] == "."
         if walk and dotted and word not in fields:

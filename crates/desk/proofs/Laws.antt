@@ -10,7 +10,7 @@ use Prim.Native.Nat.{ℕ, zero, suc, ◌+◌, ◌-◌, ◌%◌, ◌≤◌, ◌<�
 use native.Mathlib.Omega.{arith}
 use borrow.Author.Tests.{ltb-false, leb-true, leb-false, not-false, le-ltb, le-leb, lt-leb}
 use lib.Dec.{ltb, leb}
-use lib.ListN.{length, get_or, take, set, replicate}
+use lib.ListN.{length, get_or, take, replicate}
 use lib.Seq.{get_or-set_same, get_or-set_other}
 use Rattle.rows.proofs.Settled.{settled, settled_parts}
 use Rattle.rows.specs.Settled.{Settled}

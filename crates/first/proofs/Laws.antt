@@ -56,7 +56,7 @@ ended_from fits k (suc n) = go (fits k) refl (ended_from fits (suc k) n)
     go false e later =
         record {
           within = omega (arith, later.within);
-          before = λ i. elim i [ zero ↦ λ l. ap fits (add-zero k) ∙ e | suc m ↦ λ l. ap fits (sym (on m)) ∙ later.before m (le_of_suc-le-suc l) ];
+          before = λ i. elim i as (λ j. j < suc (passed_from fits (suc k) n) → fits (k + j) ≡ false) [ zero ↦ λ l. ap fits (add-zero k) ∙ e | suc m ↦ λ l. ap fits (sym (on m)) ∙ later.before m (le_of_suc-le-suc l) ];
           there = λ l. ap fits (sym (on (passed_from fits (suc k) n))) ∙ later.there (le_of_suc-le-suc l);
         }
 

@@ -198,8 +198,8 @@ fn of_step(stepped: tally::Stepped) -> StepAnswer
     let receiver = stepped.receiver;
     let answer = stepped.answer;
     match answer {
-        tally::Answer::Nothing => no_line_lem(receiver, stepped.taken, 0),
-        tally::Answer::Refused(fault) => no_line_lem(receiver, stepped.taken, tally::number(fault)),
+        tally::Answer::Nothing => no_line(receiver, stepped.taken, 0),
+        tally::Answer::Refused(fault) => no_line(receiver, stepped.taken, tally::number(fault)),
         tally::Answer::Line(line) => {
             let event = line.event;
             StepAnswer {
@@ -214,7 +214,7 @@ fn of_step(stepped: tally::Stepped) -> StepAnswer
     }
 }
 
-fn no_line_lem(receiver: Receiver, taken: usize, refusal: u8) -> StepAnswer
+fn no_line(receiver: Receiver, taken: usize, refusal: u8) -> StepAnswer
     ensures { result ≡ no_line receiver taken refusal }
 {
     StepAnswer {

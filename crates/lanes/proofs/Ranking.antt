@@ -24,7 +24,7 @@ use Rattle.lanes.specs.Withdraw.{IsNoSuchRequest, withdraw_rows, is_no_such, wit
 use Rattle.lanes.specs.declared.AfterJoin.{AfterJoin}
 use Rattle.lanes.specs.declared.AfterWithdraw.{AfterWithdraw}
 use Rattle.lanes.specs.declared.Fault.{Fault}
-use Rattle.lanes.specs.declared.Fault.TheVariants.{Denied, NoSuchRequest}
+use Rattle.lanes.specs.declared.Fault.TheVariants.{Denied, NoLaneFree, LaneFull, NoSuchRequest}
 use Rattle.lanes.specs.declared.Lane.{Lane}
 use Rattle.lanes.specs.declared.Lanes.{Lanes}
 
@@ -126,9 +126,10 @@ module _ (lanes : Lanes) (job : ℕ) where
 pub join_ranked : (lanes : Lanes) (asked : Request) (bytes : List ℕ) → Ranked (join_rows lanes asked bytes) (join_refusal lanes asked bytes)
 unfolding join_rows join_refusal
 join_ranked lanes asked bytes =
-    ranked_append (passed_up Denied (ask_rows asked bytes)) _ (raised Denied (ask_refusal asked bytes)) (first_row_of (lane_tests lanes (lane_for lanes asked.job)))
+    ranked_append (passed_up Denied (ask_rows asked bytes)) (row (IsNoLaneFree lanes asked.job) NoLaneFree ∷ row (IsLaneFull lanes asked.job) LaneFull ∷ [])
+    (raised Denied (ask_refusal asked bytes)) (first_row_of (lane_tests lanes (lane_for lanes asked.job)))
     (ranked_up Denied (ask_rows asked bytes) (ask_refusal asked bytes) (ask_ranked asked bytes))
-    (λ n. ranked (lane_tests lanes (lane_for lanes asked.job)) _
+    (λ n. ranked (lane_tests lanes (lane_for lanes asked.job)) (row (IsNoLaneFree lanes asked.job) NoLaneFree ∷ row (IsLaneFull lanes asked.job) LaneFull ∷ [])
     (decides_none_free lanes asked.job otherwise λ n₇₁. decides_full lanes asked.job n₇₁ otherwise λ n₇₂. tt))
 
 join_tells : (o : Option Fault) (lanes : Lanes) (place : ℕ) → join_told (join_answer o lanes place) ≡ raised fault_number o

@@ -1,6 +1,6 @@
 -- How a text is put together from its pieces in a lent room.
 -- Assumes nothing.
-use mathlib.Core.Path.{◌≡◌, sym, ap, ap₂, subst, ◌∙◌}
+use mathlib.Core.Path.{◌≡◌, sym, ap, subst, ◌∙◌}
 use mathlib.Core.Logic.{◌≢◌}
 use borrow.Author.Tests.{eq-eqb, ne_eqb}
 use mathlib.Core.List.{append-nil, List, [], ◌∷◌, ◌++◌}
@@ -8,9 +8,8 @@ use mathlib.Core.Bool.{true, false, Bool}
 use Prim.Native.Nat.{ℕ, ◌+◌, ◌≤◌}
 use native.Mathlib.Omega.{arith}
 use native.Mathlib.Nat.{zero-add}
-use lib.ListN.{length, length-append}
-use Rattle.lent.specs.Lent.{over_at}
-use Rattle.lent.proofs.Laws.{over_at_append, over_at_zero}
+use lib.ListN.{length}
+use Rattle.lent.proofs.Laws.{over_at_zero}
 use Rattle.text.specs.Text.{decimal, Spells, ascii, Puts}
 use Rattle.text.proofs.Laws.{puts_then, spelled_short}
 use Rattle.telegram.specs.Read.{fault_number, fault_place}

@@ -66,7 +66,7 @@ trailing_ones (suc d) word h =
         → (2 ^ suc d - 1 - word) % 2 + word % 2 ≡ 1 → Ones (suc d) word (under b (count_trailing_zeros d ((2 ^ suc d - 1 - word) / 2)))
     go zero e ones sum = (
       omega (arith, ones.0),
-      λ i. elim i [ zero ↦ λ l. bit_lowest word ∙ omega arith | suc j ↦ λ l. sym (bit_up word j) ∙ ones.1 j (omega arith) ],
+      λ i. elim i as (λ n. n < under zero (count_trailing_zeros d ((2 ^ suc d - 1 - word) / 2)) → bit_at word n ≡ 1) [ zero ↦ λ l. bit_lowest word ∙ omega arith | suc j ↦ λ l. sym (bit_up word j) ∙ ones.1 j (omega arith) ],
       λ l. sym (bit_up word _) ∙ ones.2 (omega arith),
     )
     go (suc b) e ones sum = (omega arith, λ i l. absurd (omega arith), λ l. bit_lowest word ∙ omega arith)

@@ -1,7 +1,7 @@
 -- The definitions of a number in a word, said out.
 -- Assumes nothing.
 use mathlib.Core.Path.{◌≡◌, refl}
-use mathlib.Core.List.{List, [], ◌∷◌}
+use mathlib.Core.List.{List, ◌∷◌}
 use Prim.Native.Nat.{ℕ, suc}
 use Rattle.text.specs.Text.{decimal}
 use Rattle.values.specs.declared.Value.TheVariants.{Natural, Negative}

@@ -4,7 +4,7 @@ use mathlib.Core.Path.{◌≡◌, refl, sym, ap, subst, ◌∙◌}
 use mathlib.Core.Bool.{true, true≢false}
 use mathlib.Core.List.{List, [], ◌∷◌, ◌++◌}
 use mathlib.Core.Logic.{◌≢◌, ◌⊎◌, inl, inr, ⊎_elim}
-use Prim.Native.Nat.{ℕ, zero, suc, ◌+◌, ◌-◌, ◌*◌, ◌/◌, ◌≤◌, ◌<◌}
+use Prim.Native.Nat.{ℕ, zero, suc, ◌+◌, ◌*◌, ◌/◌, ◌≤◌, ◌<◌}
 use native.Mathlib.Decide.{dec_lt}
 use native.Mathlib.Omega.{arith}
 use lib.ListN.{length, get_or, take, drop, replicate}
@@ -19,7 +19,7 @@ use Rattle.desk.specs.Desk.{ticket_at, ticket_on, OpenOn, fresh_desk}
 use Rattle.nights.proofs.Laws.{any_night, then_all}
 use Rattle.desk.proofs.Laws.{on_host, open_within, put_here, put_other}
 use Rattle.ticket.specs.Due.{IsDue, is_due}
-use Rattle.ticket.specs.Ticket.{no_ticket, withdrawn_at}
+use Rattle.ticket.specs.Ticket.{withdrawn_at}
 use Rattle.ticket.proofs.Laws.{decides_due}
 use Rattle.rows.proofs.Laws.{told_true, told_false}
 use Rattle.ticket.specs.declared.Ticket.{Ticket}

@@ -14,10 +14,9 @@ use Rattle.listing.specs.Events.{placed, event_of, events_from, events_of}
 use Rattle.listing.specs.Places.{In, thirteens}
 use Rattle.listing.proofs.Laws.{as_many, every_13}
 use Rattle.receiver.specs.declared.Receiver.{Receiver}
-use Rattle.receiver.specs.declared.Answer.{Answer}
 use Rattle.receiver.specs.declared.Stepped.{Stepped}
-use Rattle.receiver.specs.Receiver.{largest, outside_at, next, told, step_from, one_more, end_or, step_refusal, step_of}
-use Rattle.receiver.specs.Chunks.{line_in, open_line, Run, steps, feed, joined, receiver_of, IsReading}
+use Rattle.receiver.specs.Receiver.{largest, outside_at, next, told, step_from, step_refusal, step_of}
+use Rattle.receiver.specs.Chunks.{line_in, open_line, steps, feed, joined, receiver_of, IsReading}
 use Rattle.receiver.specs.Parts.{Fits, Held}
 use Rattle.receiver.proofs.Kept.{length_none}
 use Rattle.receiver.proofs.Goes.{next_place, on_or_end, step_cons, step-none, step_goes, step_takes}

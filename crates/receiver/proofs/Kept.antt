@@ -1,23 +1,22 @@
 -- What is kept of an open frame: how it grows, and how it is closed.
 -- Assumes nothing.
-use mathlib.Core.Path.{◌≡◌, refl, sym, ap, ap₂, ◌∙◌}
+use mathlib.Core.Path.{◌≡◌, refl, ap, ap₂, ◌∙◌}
 use mathlib.Core.Bool.{Bool, true, false, cond}
 use mathlib.Core.List.{List, [], ◌∷◌, ◌++◌, append_assoc}
 use Prim.Native.Nat.{ℕ, zero, suc, ◌+◌, ◌-◌, ◌≤◌, ◌<◌}
-use native.Mathlib.Nat.{add-zero, zero-add, suc-add, le_of_suc-le-suc, not-suc-le-zero}
-use native.Mathlib.Numerals.{add-one}
+use native.Mathlib.Nat.{add-zero, zero-add, suc-add}
 use native.Mathlib.Omega.{arith}
 use borrow.Author.Tests.{le-leb, lt-leb, lt-ltb, le-ltb, leb-true, leb-false, ltb-true, ltb-false}
 use lib.Dec.{leb, ltb}
 use lib.ListN.{length, take, length-append, length-replicate}
-use Rattle.lent.specs.Lent.{over, over_at}
-use Rattle.lent.proofs.Laws.{length-over_at, over_at_none, over_at_past, over_at_append, over_at_zero, take-over}
+use Rattle.lent.specs.Lent.{over_at}
+use Rattle.lent.proofs.Laws.{length-over_at, over_at_none, over_at_past, over_at_append, take-over}
 use Rattle.telegram.specs.declared.Fault.TheVariants.{LongMessage}
 use Rattle.lines.specs.declared.Event.{Event}
 use Rattle.lines.specs.declared.Event.TheVariants.{Refused}
 use Rattle.listing.specs.Events.{frame_event}
 use Rattle.receiver.specs.declared.Receiver.{Receiver}
-use Rattle.receiver.specs.Receiver.{no_bytes, outside_at, opened_at, kept, ran_away, grown, closing}
+use Rattle.receiver.specs.Receiver.{no_bytes, opened_at, ran_away, grown, closing}
 use Rattle.receiver.specs.Parts.{Held, size_by, grown_by, closed_by}
 
 pub length_none : length no_bytes ≡ 494

@@ -4,29 +4,27 @@
 use mathlib.Core.Path.{◌≡◌, refl, sym, ap, ap₂, ◌∙◌}
 use mathlib.Core.Bool.{Bool, true, false, cond, ◌&&◌}
 use mathlib.Core.List.{List, [], ◌∷◌, ◌++◌, append_assoc, append-nil}
-use mathlib.Core.Logic.{◌⊎◌, inl, inr, ⊎_elim}
-use Prim.Native.Nat.{ℕ, zero, suc, ◌+◌, ◌-◌, ◌≤◌, ◌<◌, min}
-use native.Mathlib.Nat.{add-zero, zero-add, le_of_suc-le-suc, not-suc-le-zero, sub-zero}
+use mathlib.Core.Logic.{inl, inr, ⊎_elim}
+use Prim.Native.Nat.{ℕ, suc, ◌+◌, ◌≤◌, ◌<◌, min}
+use native.Mathlib.Nat.{le_of_suc-le-suc, not-suc-le-zero}
 use native.Mathlib.Numerals.{add-one}
 use native.Mathlib.Omega.{arith}
 use borrow.Author.Tests.{le-leb, lt-leb, lt-ltb, le-ltb, leb-true, leb-false, ltb-true, ltb-false, eq-eqb, ne_eqb, eqb-true, eqb-false}
 use lib.Dec.{eqb, leb, ltb}
-use lib.ListN.{length, get_or, take, drop}
-use lib.Seq.{take-suc, take_all}
-use Rattle.lent.specs.Lent.{over_at}
+use lib.ListN.{length, get_or, take}
+use lib.Seq.{take-suc}
 use Rattle.lent.proofs.Laws.{over_at_append}
 use Rattle.lines.specs.declared.Event.{Event}
 use Rattle.lines.specs.declared.Event.TheVariants.{Dropped, Open}
 use Rattle.lines.specs.declared.Placed.{Placed}
 use Rattle.listing.specs.Events.{placed, frame_event, is_end, to_next, to_next_end, event_of, events_from}
 use Rattle.listing.proofs.Events.{events_none, events_cons}
-use Rattle.listing.proofs.Next.{next-none, next_there}
+use Rattle.listing.proofs.Next.{next-none}
 use Rattle.listing.proofs.Numbers.{decides_end, ends_there}
 use Rattle.receiver.specs.declared.Receiver.{Receiver}
-use Rattle.receiver.specs.declared.Answer.TheVariants.{Nothing, Line}
 use Rattle.receiver.specs.Receiver.{no_bytes, outside_at, opened_at, is_inside, passed, grown, next, closing, told}
 use Rattle.receiver.specs.Chunks.{line_in, inside_at, receiver_of, open_line}
-use Rattle.receiver.specs.Parts.{Held, size_by, grown_by, closed_by}
+use Rattle.receiver.specs.Parts.{Held, size_by, grown_by}
 use Rattle.receiver.proofs.Kept.{length_none, opened_held, one_held, one_positive, grown_none, grown_more, closing_grown, closed_opened}
 use Rattle.receiver.proofs.Stretches.{at_start, told_outside, next_outside, told_dropped, told_closed, next_closed, told_grown, next_grown}
 

@@ -1,15 +1,14 @@
 -- A step over a chunk, a stretch of bytes at once: what the code goes by.
 -- Assumes nothing.
 use mathlib.Core.Path.{◌≡◌, refl, sym, ap, ap₂, ◌∙◌}
-use mathlib.Core.Bool.{Bool, true, false, cond, ◌||◌}
+use mathlib.Core.Bool.{true, false}
 use mathlib.Core.List.{List, [], ◌∷◌, ◌++◌}
 use mathlib.Core.Logic.{inl, inr, ⊎_elim}
 use Prim.Native.Nat.{ℕ, zero, suc, ◌+◌, ◌-◌, ◌≤◌, ◌<◌}
-use native.Mathlib.Nat.{add-zero, zero-add, add-suc, le_of_suc-le-suc, not-suc-le-zero}
+use native.Mathlib.Nat.{add-zero, zero-add, not-suc-le-zero}
 use native.Mathlib.Numerals.{add-one}
 use native.Mathlib.Omega.{arith}
 use borrow.Author.Tests.{eq-eqb, ne_eqb, lt-ltb, le-ltb, eqb-true, eqb-false}
-use lib.Dec.{eqb, ltb}
 use lib.ListN.{length, get_or, take, drop, length-drop, drop_of_length-le}
 use lib.Seq.{get_or-drop, take_all, take-suc, length-take-le}
 use Rattle.lent.proofs.Laws.{drop-next}
@@ -19,10 +18,9 @@ use Rattle.listing.specs.Events.{placed, frame_event, is_end, to_next, to_next_e
 use Rattle.listing.proofs.Numbers.{decides_end, ends_there}
 use Rattle.listing.proofs.Next.{next-none, before_next, next_there}
 use Rattle.receiver.specs.declared.Receiver.{Receiver}
-use Rattle.receiver.specs.declared.Answer.{Answer}
 use Rattle.receiver.specs.declared.Answer.TheVariants.{Nothing, Line}
 use Rattle.receiver.specs.declared.Stepped.{Stepped}
-use Rattle.receiver.specs.Receiver.{outside_at, opened_at, is_inside, passed, grown, next, closing, told, stepped, one_more, end_or, step_from}
+use Rattle.receiver.specs.Receiver.{outside_at, opened_at, is_inside, passed, grown, next, closing, told, stepped, one_more, step_from}
 use Rattle.receiver.specs.Parts.{Held, is_start, passed_by, grown_by, closed_by}
 use Rattle.receiver.proofs.Kept.{opened_held, grown_none, grown_more, one_held, one_positive, size_positive, closing_grown, closed_opened}
 

@@ -8,7 +8,6 @@ use Rattle.lent.specs.Lent.{over_at}
 use Rattle.telegram.specs.declared.Fault.TheVariants.{LongMessage}
 use Rattle.lines.specs.declared.Event.{Event}
 use Rattle.lines.specs.declared.Event.TheVariants as event
-use Rattle.lines.specs.declared.Placed.{Placed}
 use Rattle.listing.specs.Events.{placed, frame_event}
 use Rattle.receiver.specs.declared.Receiver.{Receiver}
 use Rattle.receiver.specs.declared.Fault.{Fault}

@@ -329,7 +329,16 @@ module _ (scan : Scan) (desk : Desk) (clock : ℕ) (room : List ℕ) (r : AfterS
       (λ h. ⊎_elim (λ l. absurd (omega (arith, l))) (λ l. let m = l.1 in absurd (omega (arith, m))) h)
       (λ no. no (omega arith, omega arith))
       (λ h. h.0 refl) in
-      rw a.2 (record { in_order = refl; no_two = refl; each = refused_exactly _ told ranked; done = told_done_exactly _ told ranked })
+      let rows : List (Row ℕ) =
+      row (scan.job ≡ 0) 10
+      ∷ row ((place : ℕ) → place < 95
+      → ((ticket_at desk place).live ≡ true) ⊎ (((ticket_at desk place).withdrawn ≡ true) × (age clock (ticket_at desk place).closed < 1000))) 15
+      ∷ row
+      (length room
+      < length
+      (request_at (given_place desk clock) (record { job = scan.job; unit = scan.turns + 1; sort = 4; register = 97; wait = 100; folder = 0 }) [])) 16
+      ∷ [] in
+      rw a.2 (record { in_order = refl; no_two = refl; each = refused_exactly rows told ranked; done = told_done_exactly rows told ranked })
 
   pub step_tells_nothing : (160 ≤ scan.turns → step_told r.answer ≡ none) × (scan.turns < 160 → scan.out ≢ 0 → step_told r.answer ≡ none)
   step_tells_nothing = (λ all. ap step_told (done_stays all).0, λ left out. ap step_told (waiting_stays left out).0)

@@ -3,8 +3,9 @@
 use mathlib.Core.Path.{◌≡◌, refl}
 use mathlib.Core.List.{List, [], ◌∷◌}
 use mathlib.Core.Logic.{inr}
-use Prim.Native.Nat.{ℕ, zero, suc}
+use Prim.Native.Nat.{ℕ, zero, suc, ◌<◌}
 use native.Mathlib.Omega.{arith}
+use lib.ListN.{length}
 use Rattle.values.specs.Values.{size_of, bytes_of, natural}
 use Rattle.setting.specs.Setting.{Setting, head, setting, length_of, Above, Allowed, head_of, settings_in}
 use Rattle.sheet.specs.Sheet.{header_for, record_for, records_for, values_for, sheet_of, named, valued, Writable, field_at, count_in, records_in, values_in, held}
@@ -37,13 +38,16 @@ unfolding named valued Above Allowed length_of size_of
 two_writable =
     record {
       few = omega arith;
-      rise = λ k. elim k [ zero ↦ λ h. inr (refl, omega arith) | suc j ↦ λ h. absurd (omega arith) ];
-      allowed = λ k. elim k [
+      rise = λ k. elim k as (λ n. suc n < length two → Above (named two n) (named two (suc n))) [ zero ↦ λ h. inr (refl, omega arith) | suc j ↦ λ h. absurd (omega arith) ];
+      allowed = λ k. elim k as (λ n. n < length two → Allowed (named two n)) [
         | zero ↦ λ h. ((omega arith, omega arith), ((omega arith, omega arith), ((omega arith, omega arith), omega arith)))
-        | suc j ↦ elim j [
+        | suc j ↦ elim j as (λ n. suc n < length two → Allowed (named two (suc n))) [
           | zero ↦ λ h. ((omega arith, omega arith), ((omega arith, omega arith), ((omega arith, omega arith), omega arith)))
           | suc i ↦ λ h. absurd (omega arith)
         ]
       ];
-      whole = λ k. elim k [ zero ↦ λ h. refl | suc j ↦ elim j [ zero ↦ λ h. refl | suc i ↦ λ h. absurd (omega arith) ] ];
+      whole = λ k. elim k as (λ n. n < length two → length (valued two n) ≡ length_of (named two n)) [
+        | zero ↦ λ h. refl
+        | suc j ↦ elim j as (λ n. suc n < length two → length (valued two (suc n)) ≡ length_of (named two (suc n))) [ zero ↦ λ h. refl | suc i ↦ λ h. absurd (omega arith) ]
+      ];
     }

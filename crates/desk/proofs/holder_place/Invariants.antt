@@ -1,0 +1,13 @@
+use mathlib.Core.Path.{◌≡◌}
+use mathlib.Core.Bool.{false}
+use Prim.Native.Nat.{ℕ, ◌-◌, ◌≤◌, ◌<◌}
+use lib.ListN.{length}
+use Rattle.ticket.specs.Folder.{is_barred}
+use Rattle.desk.specs.Desk.{ticket_at}
+use Rattle.desk.proofs.holder_place.Given as goal
+
+abbrev pub invariant-loop-k : goal.invariant-loop-k
+invariant-loop-k l = (l.k ≤ 95) × ((i : ℕ) → i < l.k → is_barred l.job l.folder (ticket_at l.desk i) ≡ false) × (l.marks ≡ l.desk.marks) × (length l.desk.tickets ≡ 95)
+
+abbrev pub decreases-loop-k : goal.decreases-loop-k
+decreases-loop-k l = 95 - l.k

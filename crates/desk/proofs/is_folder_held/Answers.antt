@@ -1,0 +1,8 @@
+use Rattle.desk.proofs.Calls.{folder_none, folder_by}
+use Rattle.desk.proofs.is_folder_held.Goals as goal
+
+pub returns-then-asked-ne0 : goal.returns-then-asked-ne0
+returns-then-asked-ne0 c = folder_by c.args.desk c.args.asked _ c.if-asked-ne0.true c.holder_place.ensures
+
+pub returns-else-asked-ne0 : goal.returns-else-asked-ne0
+returns-else-asked-ne0 c = folder_none c.args.desk c.args.asked c.if-asked-ne0.false

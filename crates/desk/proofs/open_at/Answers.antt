@@ -1,0 +1,17 @@
+use mathlib.Core.Path.{refl}
+use borrow.Author.Tests.{le-leb}
+use Rattle.desk.proofs.Calls.{opened_at_lem, no_room_at}
+use Rattle.desk.proofs.open_at.Goals as goal
+
+pub returns-then-distance-ge95 : goal.returns-then-distance-ge95
+returns-then-distance-ge95 c = simp (le-leb _ _ c.if-distance-ge95.true) (refl, refl, refl, refl)
+
+pub returns-in-Refused : goal.returns-in-Refused
+returns-in-Refused c =
+    no_room_at c.args.desk c.args.distance c.args.asked c.args.«data».now c.args.clock c.args.room.now _ _
+    c.if-distance-ge95.false c.requires c.write.ensures _ c.in-Refused.is
+
+pub returns-in-Written : goal.returns-in-Written
+returns-in-Written c =
+    opened_at_lem c.args.desk c.args.distance c.args.asked c.args.«data».now c.args.clock c.args.room.now _ _
+    c.if-distance-ge95.false c.requires c.write.ensures _ _ c.in-Written.is c.with_ticket.ensures
