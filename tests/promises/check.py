@@ -164,8 +164,8 @@ def check_call(call, row):
 
 def check_law(where, call, laws):
     """One law, which says `Settled` of the very contract in the call's `ensures`."""
-    if len(laws) != 1 or not laws[0] or laws[0].group(2) != "proofs" or not laws[0].group(3).endswith("-settled"):
-        fault(where, f"{call.crate}::{call.name}: the third column wants one citation CRATE/proofs: ..-settled")
+    if len(laws) != 1 or not laws[0] or laws[0].group(2) != "proofs" or not laws[0].group(3).endswith("_settled"):
+        fault(where, f"{call.crate}::{call.name}: the third column wants one citation CRATE/proofs: .._settled")
         return
     crate, law = laws[0].group(1), laws[0].group(3)
     contract, home, why = names.settles(crate, law)
@@ -233,7 +233,7 @@ def check_specs():
     """What is promised stands in specs/ alone: neither a definition nor a contract leans on what a proofs/ declares."""
     for path in sorted(names.CRATES.glob("*/specs/**/*.antt")) + sorted(names.CRATES.glob("*/src/**/*.rt")):
         for at, line in enumerate(names.read(path).splitlines(), 1):
-            if re.match(r"(ghost )?use Rattle·\S*proofs", line):
+            if re.match(r"(ghost )?use Rattle\.(?!std\.)\S*proofs", line):
                 fault(f"{path.relative_to(names.ROOT)}:{at}", "leans on what a proofs/ declares")
     numbers = re.findall(r"^(\d+)\. ", names.read(names.ROOT / "docs" / "DECISIONS.md"), re.M)
     for number in sorted({n for n in numbers if numbers.count(n) > 1}, key=int):

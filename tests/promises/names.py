@@ -95,16 +95,16 @@ class Call:
     def __init__(self, crate, path, name, said, uses):
         self.crate, self.path, self.name = crate, path, name
         self.requires = re.search(r"\brequires\b", said) is not None
-        stated = re.findall(r"\bensures\s*\{\s*λ\s*(\w+)\.\s*⌜(.*?)⌝\s*\}", said, re.S)
-        answer, relation = stated[0] if len(stated) == 1 else ("_", "")
+        stated = re.findall(r"\bensures\s*\{(.*?)\}", said, re.S)
+        answer, relation = "result", stated[0] if len(stated) == 1 else ""
         named = re.match(r"\s*([A-Z]\w*)\s", relation)
         self.contract = named.group(1) if named and not re.search(r"[≡×⊎→]", relation) else None
         # what the relation must speak of: all that is given, each lent buffer as it is afterwards, and the answer where there is one
         given = re.findall(r"[(,]\s*(?:mut\s+)?(\w+)\s*:", said.split("ensures")[0])
-        lent = [f"{room} .exit" for room in re.findall(r"(\w+):\s*&\s*mut\b", said)]
+        lent = [f"{room}.new" for room in re.findall(r"(\w+):\s*&\s*mut\b", said)]
         self.unsaid = [part for part in given + lent + [answer] * ("->" in said) if not re.search(rf"\b{part}\b", relation)]
         # and what it may speak of: each of these as it is, or what a definition of a specs/ makes of it, but no number and no sum
-        known = {*given, answer, "now", "entry", "exit", *uses}
+        known = {*given, answer, "now", "old", "new", "entry", "exit", *uses}
         self.beside = [word for word in re.findall(r"[^\s().«»]+", relation) if word not in known]
         self.home = uses.get(self.contract)
 
@@ -121,7 +121,7 @@ def calls(crate):
 def brought(text, word):
     """What a file brings in from the specs/ of a crate, by name."""
     uses = {}
-    for home, items in re.findall(rf"^{word} Rattle·(\w+)(?:·specs)?\.specs\.[\w.-]+\.\{{(.*?)\}}", text, re.M | re.S):
+    for home, items in re.findall(rf"^{word} Rattle\.(?!std\.)(\w+)\.specs\.[\w.-]+\.\{{(.*?)\}}", text, re.M | re.S):
         for item in items.split(","):
             name, _, other = item.strip().partition(" as ")
             uses[other or name] = home if not other else None
@@ -130,8 +130,8 @@ def brought(text, word):
 
 # ---- laws
 
-# `(a b : T) .. → Settled (CONTRACT a b ..)`, or with an answer and a buffer `(λ o. CONTRACT a b .. (o .0) (o .1))`, or two, with `(o .2)`
-SETTLED = re.compile(r"((?:\([^()]*\) )*)(?:→ )?Settled (?:\{A = [^{}]*\} )?(?:(\w+)|\((\w+)((?: \w+)*)\)|\(λ o\. (\w+)((?: \w+)*) \(o \.0\) \(o \.1\)(?: \(o \.2\))?\))")
+# `(a b : T) .. → Settled (CONTRACT a b ..)`, or with an answer and a buffer `(λ o. CONTRACT a b .. o.0 o.1)`, or two, with `o.2`
+SETTLED = re.compile(r"((?:\([^()]*\) )*)(?:→ )?Settled (?:\{A = [^{}]*\} )?(?:(\w+)|\((\w+)((?: \w+)*)\)|\(λ o\. (\w+)((?: \w+)*) o\.0 o\.1(?: o\.2)?\))")
 
 
 def settles(crate, law):

@@ -1,8 +1,7 @@
 -- A step with the tally lent to it: where the tally is full it is cleared and lent again, and the step is the receiver's own in either case.
 -- Assumes nothing.
-use Rattle.std.proofs.Common.{◌≡◌, ℕ, ◌+◌, Bool, true, false, cond, List, [], sym, refl, ap, ◌∙◌, true≢false, le-ltb}
-use mathlib.Core.Option.{Option, some, none}
-use Rattle.rows.proofs.Laws.{clash}
+use Rattle.std.proofs.Common.{◌≡◌, ℕ, Bool, true, false, List, sym, refl, ap, ◌∙◌, true≢false, le-ltb}
+use mathlib.Core.Option.{none}
 use Rattle.lines.specs.declared.Event.{Event}
 use Rattle.lines.specs.declared.Event.TheVariants as event
 use Rattle.receiver.proofs.Chunks.{step_fits}
@@ -17,7 +16,6 @@ use Rattle.tally.proofs.Ahead.{never_refused}
 use Rattle.tally.proofs.Returns.{refusal_is}
 use Rattle.tally.specs.Tally.{clear_tally, is_full, full_at, told, stepped_by, step_refusal, tally_by, with_end, Counts}
 use Rattle.tally.specs.declared.Counted.{Counted}
-use Rattle.tally.specs.declared.Fault.TheVariants.{TallyFull}
 use Rattle.tally.specs.declared.Stepped.{Stepped}
 use Rattle.tally.specs.declared.Tally.{Tally}
 use Rattle.lister.specs.Parts.{is_refused, ran_answer, ran_on, Lends}

@@ -1,7 +1,6 @@
 -- The text of a whole listing, however its bytes were cut and whatever room there was for it.
 -- Assumes nothing.
-use Rattle.std.proofs.Common.{◌≡◌, ℕ, zero, suc, ◌+◌, ◌-◌, ◌%◌, ◌^◌, ◌<◌, ◌≤◌, Bool, true, false, cond, ltb, List, [], ◌∷◌, ◌++◌, length, drop, sym, refl, ap, ◌∙◌, ap₂, append_assoc, append-nil, le_of_eq, not-suc-le-zero, add-zero, mod-eq_of_lt, zero-add, arith, length-append, length-drop, drop-drop, le-ltb}
-use mathlib.Core.Option.{Option, some, none}
+use Rattle.std.proofs.Common.{◌≡◌, ℕ, zero, suc, ◌+◌, ◌-◌, ◌<◌, ◌≤◌, Bool, true, false, cond, ltb, List, [], ◌∷◌, ◌++◌, length, drop, sym, refl, ap, ◌∙◌, ap₂, append_assoc, append-nil, le_of_eq, add-zero, mod-eq_of_lt, zero-add, arith, length-append, length-drop, drop-drop, le-ltb}
 use lib.Seq.{drop-length}
 use Rattle.lines.specs.declared.Event.{Event}
 use Rattle.lines.specs.declared.Event.TheVariants.{Open}
@@ -11,17 +10,16 @@ use Rattle.listing.specs.Events.{events_of, events_from, total, is_ok, is_refuse
 use Rattle.listing.specs.Listing.{lines_text, listing_text}
 use Rattle.listing.proofs.Events.{no_line_lem, one_line, lines-append, no_total, one_total, total-append, one_kind}
 use Rattle.receiver.specs.declared.Receiver.{Receiver}
-use Rattle.receiver.specs.declared.Fault.{Fault}
 use Rattle.receiver.specs.declared.Answer.{Answer}
 use Rattle.receiver.specs.declared.Answer.TheVariants.{Nothing, Line, Refused}
 use Rattle.lister.specs.declared.Listing.{Listing}
-use Rattle.receiver.specs.Receiver.{largest, outside_at, is_inside, next, told, step_refusal}
-use Rattle.receiver.specs.Chunks.{line_in, open_line, joined, receiver_of}
-use Rattle.lister.specs.Text.{longest_line, begin_at, plus, counted, Poured, poured, behind, text_told, onward, pour, pour_of, pours, pours_all, end_text}
+use Rattle.receiver.specs.Receiver.{largest, is_inside, next, told, step_refusal}
+use Rattle.receiver.specs.Chunks.{line_in, open_line, joined}
+use Rattle.lister.specs.Text.{longest_line, begin_at, plus, Poured, poured, behind, text_told, onward, pour, pour_of, pours, pours_all, end_text}
 use Rattle.receiver.specs.Parts.{Fits, Held}
 use Rattle.receiver.proofs.Kept.{length_none}
 use Rattle.receiver.proofs.Goes.{next_place}
-use Rattle.receiver.proofs.Same.{behind_bytes, Moved, not_moved, moved_byte, moved_then, moved_joined, next_held}
+use Rattle.receiver.proofs.Same.{behind_bytes, Moved, not_moved, moved_byte, moved_then, moved_joined}
 use Rattle.receiver.proofs.Chunks.{reading, place_after, place_behind}
 use Rattle.lister.proofs.Laws.{pour_within, pour_moves}
 

@@ -5,7 +5,7 @@ use mathlib.Core.Bool.{Bool, true, false, not, cond}
 use mathlib.Core.List.{List}
 use mathlib.Core.Logic.{◌≢◌}
 use mathlib.Core.Option.{Option, some, none}
-use Prim.Native.Nat.{ℕ, zero, ◌+◌, ◌-◌, ◌*◌, ◌/◌, ◌≤◌, ◌<◌}
+use Prim.Native.Nat.{ℕ, ◌+◌, ◌-◌, ◌*◌, ◌/◌, ◌≤◌, ◌<◌}
 use native.Mathlib.Nat.{le_antisymm}
 use native.Mathlib.Omega.{arith}
 use borrow.Author.Tests.{lt-ltb, le-ltb, le-leb, lt-leb, eq-eqb, ne_eqb}
@@ -24,7 +24,7 @@ use Rattle.setting.specs.declared.Fault.TheVariants.{ShortSheet, OtherVersion, W
 use Rattle.setting.specs.Setting.{length_of, lengths_to, rows_in, heads, tails, some_of, falls, unfit}
 use Rattle.setting.proofs.Laws.{rows_whole}
 use Rattle.setting.proofs.Steps.{some_found, nothing_found, some_at, some-none}
-use Rattle.sheet.specs.Sheet.{field_at, version_in, count_in, records_at, values_at, records_in, values_in, Right, misplaced, is_wrong_header}
+use Rattle.sheet.specs.Sheet.{field_at, version_in, count_in, records_at, values_at, records_in, values_in, misplaced, is_wrong_header}
 use Rattle.sheet.specs.Sheet.{is_misplaced, check_refusal, check_answer, read_refusal, value_at, Checks, ChecksRecords, Reads, Shows, record_tests}
 use Rattle.sheet.specs.declared.Checked.{Checked}
 use Rattle.sheet.specs.declared.Checked.TheVariants as checked
