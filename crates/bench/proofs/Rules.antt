@@ -4,7 +4,7 @@ use Rattle.deeds.specs.Deeds.{HasRight, nack, ack, datagram, held_deed, MayRead,
 use Rattle.deeds.proofs.Laws.{read_deed_lem, write_deed_lem, set_deed, clear_deed, toggle_deed, other_deed}
 use Rattle.rows.proofs.Laws.{told_true, told_false, done_exactly}
 use Rattle.telegram.specs.declared.Reading.{Reading}
-use Rattle.telegram.specs.Read.{Reads, read_frame, fields_in, data_in}
+use Rattle.telegram.specs.Read.{Reads, fields_in, data_in}
 use mathlib.Core.Path.{◌≡◌, refl, sym, ◌∙◌}
 use mathlib.Core.Bool.{Bool, true, false, cond}
 use mathlib.Core.List.{List, []}
@@ -25,8 +25,7 @@ use Rattle.bench.proofs.Answering.{wrote_so, addressed}
 use Rattle.bench.proofs.Deeds.{deed_small}
 use Rattle.bench.proofs.Laws.{decides_held, request_ranked}
 use Rattle.bench.specs.Register.{Held, no_register, place_of, named, is_held, with_value}
-use Rattle.bench.specs.Take.{deed_of, reply_for, reply_of, IsOtherAddress, IsNotARequest, IsNoRoom, take_rows, request_refusal, take_refusal, done_to, Takes, Answerable, Gives}
-use Rattle.deeds.specs.declared.Register.{Register}
+use Rattle.bench.specs.Take.{deed_of, reply_for, reply_of, IsOtherAddress, IsNoRoom, take_rows, request_refusal, take_refusal, done_to, Takes, Answerable, Gives}
 use Rattle.bench.specs.declared.Bench.{Bench}
 use Rattle.bench.specs.declared.Taking.TheVariants.{Answered}
 use Rattle.deeds.specs.declared.Deed.{Deed}

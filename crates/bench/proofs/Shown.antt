@@ -7,7 +7,6 @@ use Prim.Native.Nat.{ℕ, ◌≤◌}
 use native.Mathlib.Omega.{arith}
 use lib.ListN.{length, take}
 use lib.Seq.{get_or-set_same}
-use Rattle.frame.specs.Frame.{AllBytes}
 use Rattle.lent.specs.Lent.{over}
 use Rattle.lent.proofs.Laws.{take-over}
 use Rattle.rows.proofs.Laws.{told_true, told_false}
@@ -17,8 +16,7 @@ use Rattle.telegram.specs.declared.Reading.{Reading}
 use Rattle.telegram.specs.declared.Reading.TheVariants.{Telegram}
 use Rattle.values.proofs.Bytes.{length-bytes_of}
 use Rattle.values.proofs.Laws.{stored_means, stored_reads, reads_whole}
-use Rattle.values.proofs.Sized.{size_of_kind}
-use Rattle.values.specs.Values.{size_of, is_signed, value_at, natural, bytes_of, stored_at, stored_refusal, read_value}
+use Rattle.values.specs.Values.{size_of, natural, bytes_of, stored_at, stored_refusal, read_value}
 use Rattle.values.specs.declared.Value.{Value}
 use Rattle.values.specs.declared.Reading.TheVariants.{Is}
 use Rattle.deeds.specs.Deeds.{MayRead, MayWrite, datagram}

@@ -127,8 +127,8 @@ fn remove_module_from(room: &mut [u8], size: usize, n: usize, unit: u8) -> Editi
     if LAST < unit {
         return Editing::Refused(Fault::NothingThere);
     }
-    let from = first_row_of(&room[..], n, unit);
-    let to = first_row_of(&room[..], n, unit + 1);
+    let from = first_of(&room[..], n, unit);
+    let to = first_of(&room[..], n, unit + 1);
     if to <= from {
         return Editing::Refused(Fault::NothingThere);
     }
@@ -159,7 +159,7 @@ fn add_to(room: &mut [u8], size: usize, n: usize, head: Head, value: &[u8]) -> E
 }
 
 // The first record of a module or of one above it; n where there is none.
-fn first_row_of(room: &[u8], n: usize, unit: u8) -> usize
+fn first_of(room: &[u8], n: usize, unit: u8) -> usize
     requires { (n ≤ 128) × (12 + 8 * n ≤ length room.now) }
     ensures { result ≡ first_place (not_below (head unit 0 0 0) (heads (take (8 * n) (drop 12 room.now)))) n }
 {

@@ -1,8 +1,8 @@
 -- How a line is put together from its pieces in a lent room.
 -- Assumes nothing.
-use mathlib.Core.Path.{◌≡◌, refl, sym, ap, ap₂, subst, ◌∙◌}
+use mathlib.Core.Path.{◌≡◌, refl, sym, ap, subst, ◌∙◌}
 use mathlib.Core.Bool.{Bool, true, false, cond, ◌&&◌}
-use mathlib.Core.List.{List, [], ◌∷◌, ◌++◌}
+use mathlib.Core.List.{List, [], ◌∷◌}
 use mathlib.Core.Logic.{◌≢◌}
 use Prim.Native.Nat.{ℕ, zero, suc, ◌+◌, ◌-◌, ◌^◌, ◌≤◌, ◌<◌}
 use native.Mathlib.Decide.{dec_lt}
@@ -11,9 +11,8 @@ use native.Mathlib.Numerals.{add-one}
 use native.Mathlib.Omega.{arith}
 use borrow.Author.Tests.{le-leb, lt-leb}
 use lib.Dec.{leb, leb→le}
-use lib.ListN.{length, get_or, length-append, get_or-eq_default}
-use Rattle.lent.specs.Lent.{over_at}
-use Rattle.lent.proofs.Laws.{over_at_append, over_at_none, over_at_zero, length-over_at}
+use lib.ListN.{length, get_or, get_or-eq_default}
+use Rattle.lent.proofs.Laws.{over_at_none, over_at_zero, length-over_at}
 use Rattle.text.specs.Text.{ascii, decimal, Puts}
 use Rattle.text.proofs.Laws.{puts_then}
 use Rattle.values.specs.Values.{size_of, is_signed, Bytes, Holds, read_value}

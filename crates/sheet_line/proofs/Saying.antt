@@ -22,7 +22,7 @@ use Rattle.values.specs.Values.{size_of, fits}
 use Rattle.values.proofs.Sized.{positive}
 use Rattle.numerals.specs.Numerals.{is_number, value_of}
 use Rattle.setting.specs.declared.Head.{Head}
-use Rattle.setting.specs.Setting.{head, Allowed, length_of, most_elements, some_of}
+use Rattle.setting.specs.Setting.{Allowed, length_of, most_elements, some_of}
 use Rattle.setting.proofs.Laws.{length_allowed}
 use Rattle.setting.proofs.Plain.{allowed_plainly}
 use Rattle.setting.proofs.Steps.{some_found, nothing_found}

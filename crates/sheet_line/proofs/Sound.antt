@@ -20,7 +20,7 @@ use Rattle.rows.proofs.Laws.{first_false, clash, decides_eq, decides_le, decides
 use Rattle.values.specs.Values.{size_of, fits, Bytes, bytes_of, stored_at}
 use Rattle.values.proofs.Bytes.{length-bytes_of, bytes_bytes_of}
 use Rattle.numerals.specs.Numerals.{is_number, value_of}
-use Rattle.setting.specs.Setting.{head, length_of, Allowed, some_of, most_elements}
+use Rattle.setting.specs.Setting.{length_of, Allowed, some_of, most_elements}
 use Rattle.setting.proofs.Plain.{allowed_plainly, length_plainly}
 use Rattle.sheet.specs.declared.Record.{Record}
 use Rattle.sheet.specs.Sheet.{record_as}

@@ -20,7 +20,7 @@ use Rattle.values.specs.declared.Reading.TheVariants as reading
 use Rattle.values.specs.Values.{read_value}
 use Rattle.numerals.specs.Numerals.{spelt}
 use Rattle.numerals.proofs.Laws.{spelt_bytes, spelt_some}
-use Rattle.setting.specs.Setting.{Setting, setting}
+use Rattle.setting.specs.Setting.{Setting}
 use Rattle.sheet_line.specs.Words.{is_blank, words_of, spaced, joined}
 use Rattle.sheet_line.specs.Line.{name_of}
 use Rattle.sheet_line.specs.Line.{element_text, elements_from, line_of, Writes}

@@ -1,6 +1,6 @@
 -- One line of a sheet's text: what it says, what can be wrong with it, and the line that is written for a setting. docs/SHEETS.md.
 -- Assumes nothing.
-use Rattle.std.specs.Prelude.{◌≡◌, Bool, true, false, cond, not, ◌&&◌, ◌||◌, List, [], ◌∷◌, ◌++◌, ◌≢◌, ℕ, zero, suc, ◌+◌, ◌*◌, ◌≤◌, ◌<◌, eqb, leb, ltb, length, get_or, take, drop}
+use Rattle.std.specs.Prelude.{◌≡◌, Bool, true, false, cond, not, ◌&&◌, List, [], ◌∷◌, ◌++◌, ◌≢◌, ℕ, zero, suc, ◌+◌, ◌≤◌, ◌<◌, eqb, leb, ltb, length, get_or, take, drop}
 use Rattle.std.proofs.Math.Option.{Option, some, none}
 use Rattle.first.specs.First.{first_place}
 use Rattle.lent.specs.Lent.{over}
@@ -12,7 +12,6 @@ use Rattle.values.specs.declared.Reading.TheVariants as reading
 use Rattle.numerals.specs.Numerals.{is_number, value_of, limited_to, spelt, is_shortest}
 use Rattle.setting.specs.declared.Head.{Head}
 use Rattle.setting.specs.Setting.{head, Setting, setting, length_of, Some, some_of, most_elements}
-use Rattle.sheet.specs.declared.Record.{Record}
 use Rattle.sheet.specs.Sheet.{record_as}
 use Rattle.sheet_line.specs.Words.{same, words_of, joined}
 use Rattle.sheet_line.specs.declared.Fault.{Fault}

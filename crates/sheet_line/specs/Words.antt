@@ -1,6 +1,6 @@
 -- The words of a line of text.
 -- Assumes nothing.
-use Rattle.std.specs.Prelude.{◌≡◌, Bool, true, false, cond, ◌||◌, ◌&&◌, List, [], ◌∷◌, ◌++◌, ℕ, eqb}
+use Rattle.std.specs.Prelude.{Bool, true, false, cond, ◌||◌, ◌&&◌, List, [], ◌∷◌, ◌++◌, ℕ, eqb}
 
 -- "From the first `#` on, a line is a remark."
 unfoldable pub plain : List ℕ → List ℕ

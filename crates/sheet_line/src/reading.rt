@@ -40,8 +40,8 @@ enum Judged {
 
 // What the words of a line say. The value of a setting is laid over the room's first bytes.
 pub(crate) fn read_words(text: &[u8], room: &mut [u8]) -> Line
-    ensures value { result ≡ said_by (words_in text.now) (length room.old) }
-    ensures room_after { room.new ≡ room_after result (value_in (words_in text.now)) room.old }
+    ensures answer { result ≡ said_by (words_in text.now) (length room.old) }
+    ensures stored { room.new ≡ room_after result (value_in (words_in text.now)) room.old }
 {
     let many = count_words(text);
     if many == 0 {
@@ -110,7 +110,7 @@ fn is_wrong(word: &[u8], k: usize) -> bool
 
 fn first_four(text: &[u8]) -> Four
     ensures says { Says (words_in text.now) result }
-    ensures at_in_bounds { (result.at ≤ length text.now) × (words_in (drop result.at text.now) ≡ drop 4 (words_in text.now)) }
+    ensures goes_on { (result.at ≤ length text.now) × (words_in (drop result.at text.now) ≡ drop 4 (words_in text.now)) }
 {
     let unit = small(text, 0);
     let register = small(text, unit.at);
@@ -130,8 +130,8 @@ fn first_four(text: &[u8]) -> Four
 // The number that the next word is, 256 where it is none of a byte.
 fn small(text: &[u8], at: usize) -> Behind
     requires { at ≤ length text.now }
-    ensures number_value { result.number ≡ limited_to 255 (get_or (words_in (drop at text.now)) 0 []) }
-    ensures at_in_bounds { (result.at ≤ length text.now) × (words_in (drop result.at text.now) ≡ drop 1 (words_in (drop at text.now))) }
+    ensures number { result.number ≡ limited_to 255 (get_or (words_in (drop at text.now)) 0 []) }
+    ensures goes_on { (result.at ≤ length text.now) × (words_in (drop result.at text.now) ≡ drop 1 (words_in (drop at text.now))) }
 {
     let next = words::next(text, at);
     let from = next.from;
@@ -179,10 +179,10 @@ fn judge(four: Four, many: usize) -> Judged
 
 // The values of a setting, which begin at a place.
 fn read_values(text: &[u8], at: usize, head: Head, room: &mut [u8]) -> Line
-    requires at_in_bounds { (at ≤ length text.now) × (words_in (drop at text.now) ≡ drop 4 (words_in text.now)) }
+    requires behind_head { (at ≤ length text.now) × (words_in (drop at text.now) ≡ drop 4 (words_in text.now)) }
     requires headed { Headed (words_in text.now) head }
-    ensures value { result ≡ line_answer (first_row_of (value_tests (words_in text.now) (length room.old))) (head_in (words_in text.now)) }
-    ensures room_after { room.new ≡ room_after result (value_in (words_in text.now)) room.old }
+    ensures answer { result ≡ line_answer (first_row_of (value_tests (words_in text.now) (length room.old))) (head_in (words_in text.now)) }
+    ensures stored { room.new ≡ room_after result (value_in (words_in text.now)) room.old }
 {
     let mut space = [0u8; 240];
     let fitting = store_values(text, at, head, &mut space);
@@ -203,9 +203,9 @@ fn read_values(text: &[u8], at: usize, head: Head, room: &mut [u8]) -> Line
 // Lays the bytes of the values behind each other and answers how many there are before the first
 // that does not fit.
 fn store_values(text: &[u8], at: usize, head: Head, space: &mut [u8]) -> usize
-    requires at_in_bounds { at ≤ length text.now }
-    requires le_kind { (1 ≤ head.kind) × (head.kind ≤ 7) × (length_of head ≤ length space.old) }
-    requires count_in_bounds { (head.count ≤ length (words_in (drop at text.now))) × AreNumbers (words_in (drop at text.now)) head.count }
+    requires in_text { at ≤ length text.now }
+    requires head_fits { (1 ≤ head.kind) × (head.kind ≤ 7) × (length_of head ≤ length space.old) }
+    requires numbers_there { (head.count ≤ length (words_in (drop at text.now))) × AreNumbers (words_in (drop at text.now)) head.count }
     ensures { StoresAll (words_in (drop at text.now)) head space.old result space.new }
 {
     let many = head.count as usize;
@@ -229,8 +229,8 @@ fn store_values(text: &[u8], at: usize, head: Head, space: &mut [u8]) -> usize
 // Lays the bytes of a value from a place on, if it fits the kind, and answers whether it does.
 fn store(word: &[u8], kind: u8, space: &mut [u8], at: usize) -> bool
     requires { (1 ≤ kind) × (kind ≤ 7) × (at ≤ length space.old) × (is_number word.now ≡ true) }
-    ensures value { result ≡ fits kind (value_of word.now) }
-    ensures space_after { result ≡ true → space.new ≡ over_at at (bytes_of (size_of kind) (stored_at (size_of kind) (value_of word.now))) space.old }
+    ensures fitting { result ≡ fits kind (value_of word.now) }
+    ensures stored { result ≡ true → space.new ≡ over_at at (bytes_of (size_of kind) (stored_at (size_of kind) (value_of word.now))) space.old }
 {
     match numerals::read(word) {
         Numeral::Is(value) => match values::as_stored(kind, value) {

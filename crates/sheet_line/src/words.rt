@@ -27,11 +27,11 @@ pub(crate) fn plain_end(text: &[u8]) -> usize
 // The next word from a place on; an empty one at the line's end where there is none.
 pub(crate) fn next(text: &[u8], at: usize) -> Span
     requires { at ≤ length text.now }
-    ensures at_le_from { (at ≤ result.from) × (result.from ≤ result.to) × (result.to ≤ length text.now) }
-    ensures text_value { take (result.to - result.from) (drop result.from text.now) ≡ get_or (words_in (drop at text.now)) 0 [] }
-    ensures text_value_2 { words_in (drop result.to text.now) ≡ drop 1 (words_in (drop at text.now)) }
-    ensures text_value_3 { result.from ≡ result.to → words_in (drop at text.now) ≡ [] }
-    ensures nonzero { result.from < result.to → 0 < length (words_in (drop at text.now)) }
+    ensures in_order { (at ≤ result.from) × (result.from ≤ result.to) × (result.to ≤ length text.now) }
+    ensures word { take (result.to - result.from) (drop result.from text.now) ≡ get_or (words_in (drop at text.now)) 0 [] }
+    ensures goes_on { words_in (drop result.to text.now) ≡ drop 1 (words_in (drop at text.now)) }
+    ensures none_left { result.from ≡ result.to → words_in (drop at text.now) ≡ [] }
+    ensures one_found { result.from < result.to → 0 < length (words_in (drop at text.now)) }
 {
     let from = word_start(text, at);
     Span {
@@ -43,9 +43,9 @@ pub(crate) fn next(text: &[u8], at: usize) -> Span
 // The first byte from a place on that is no blank.
 fn word_start(text: &[u8], at: usize) -> usize
     requires { at ≤ length text.now }
-    ensures lower_bound { (at ≤ result) × (result ≤ length text.now) }
-    ensures text_value { words_in (drop result text.now) ≡ words_in (drop at text.now) }
-    ensures result_value { result < length text.now → is_blank (get_or text.now result 0) ≡ false }
+    ensures in_text { (at ≤ result) × (result ≤ length text.now) }
+    ensures same_words { words_in (drop result text.now) ≡ words_in (drop at text.now) }
+    ensures no_blank { result < length text.now → is_blank (get_or text.now result 0) ≡ false }
 {
     let mut i = at;
     while i < text.len() {
@@ -61,9 +61,9 @@ fn word_start(text: &[u8], at: usize) -> usize
 // The first blank from a place on.
 fn word_end(text: &[u8], at: usize) -> usize
     requires { at ≤ length text.now }
-    ensures lower_bound { (at ≤ result) × (result ≤ length text.now) }
-    ensures text_value { take (result - at) (drop at text.now) ≡ (parted (drop at text.now)).word }
-    ensures text_value_2 { words_in (drop result text.now) ≡ (parted (drop at text.now)).behind }
+    ensures in_text { (at ≤ result) × (result ≤ length text.now) }
+    ensures word { take (result - at) (drop at text.now) ≡ (parted (drop at text.now)).word }
+    ensures goes_on { words_in (drop result text.now) ≡ (parted (drop at text.now)).behind }
 {
     let mut i = at;
     while i < text.len() {

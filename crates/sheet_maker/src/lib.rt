@@ -123,13 +123,13 @@ pub fn find(sheet: &[u8], unit: u8, register: u8) -> usize
         Checked::Refused(_) => 0,
         Checked::Right(n) => {
             let end = HEADER + ROW * n;
-            first_row_of(&sheet[HEADER..end], unit, register)
+            first_of(&sheet[HEADER..end], unit, register)
         }
     }
 }
 
 // The first row of a module and register; how many there are where none is.
-fn first_row_of(rows: &[u8], unit: u8, register: u8) -> usize
+fn first_of(rows: &[u8], unit: u8, register: u8) -> usize
     ensures { result ≡ first_place (is_key unit register (heads rows.now)) (rows_in rows.now) }
 {
     let n = rows.len() / ROW;

@@ -7,7 +7,7 @@ use Prim.Native.Nat.{ℕ, zero, suc, ◌+◌, ◌*◌, ◌≤◌, ◌<◌}
 use native.Mathlib.Omega.{arith}
 use lib.ListN.{length, take, drop, length-drop, drop_of_length-le}
 use lib.Seq.{length-take-le, drop-drop}
-use Rattle.rows.specs.Rows.{Ranked, row}
+use Rattle.rows.specs.Rows.{Ranked}
 use Rattle.rows.proofs.Laws.{Decides, decides_lt, decides_eq, decides_not, decides_or, ranked, ◌otherwise◌}
 use Rattle.values.specs.Values.{Bytes}
 use Rattle.values.proofs.Bytes.{bytes_drop}

@@ -20,7 +20,7 @@ use Rattle.receiver.specs.declared.Fault.{Fault as Unplaced}
 use Rattle.receiver.specs.declared.Fault.TheVariants.{PastLargest}
 use Rattle.receiver.specs.declared.Receiver.{Receiver}
 use Rattle.receiver.specs.declared.Stepped.{Stepped as Ran}
-use Rattle.tally.specs.declared.Answer.TheVariants.{Nothing, Line, Refused}
+use Rattle.tally.specs.declared.Answer.TheVariants.{Nothing}
 use Rattle.tally.specs.declared.Counted.{Counted}
 use Rattle.tally.specs.declared.Fault.{Fault}
 use Rattle.tally.specs.declared.Fault.TheVariants.{TallyFull, NotPlaced}

@@ -34,7 +34,6 @@ use Rattle.values.proofs.Sized.{size_of_kind, stored_back, value_back, value_low
 use Rattle.values.proofs.Bits.{run, byte_run, not_run, or_one, and_one, xor_one}
 use Rattle.values.proofs.Refusals.{decides_kind, decides_length, decides_fits, stored_none, stored_so, read_none, read_same_length, read_is, write_is}
 use Rattle.values.proofs.Ends.{decides_within}
-use Rattle.values.specs.declared.Stored.TheVariants as stored
 use Rattle.values.specs.declared.Reading.TheVariants as reading
 use Rattle.values.specs.declared.Writing.TheVariants as writing
 

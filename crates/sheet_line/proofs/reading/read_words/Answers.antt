@@ -1,0 +1,45 @@
+use mathlib.Core.Path.{refl, sym, ◌∙◌}
+use Rattle.sheet_line.specs.Words.{words_in}
+use Rattle.sheet_line.proofs.Saying.{no_word, few_words, no_number, head_wrong, head_right, values_said}
+use Rattle.sheet_line.proofs.reading.read_words.Goals as goal
+
+pub returns-then-many-eq0 : goal.returns-then-many-eq0
+returns-then-many-eq0 c =
+    let words = words_in c.args.text.now in
+    record { answer = no_word words _ c.count_words-many.ensures.0 c.if-many-eq0.true; stored = refl }
+
+pub returns-then-many-lt4 : goal.returns-then-many-lt4
+returns-then-many-lt4 c =
+    let words = words_in c.args.text.now in
+    record { answer = few_words words _ c.count_words-many.ensures.0 c.if-many-eq0.false c.if-many-lt4.true; stored = refl }
+
+pub returns-then-wrong-many : goal.returns-then-wrong-many
+returns-then-wrong-many c =
+    let words = words_in c.args.text.now in
+    let many = c.count_words-many.ensures.0 in
+    record { answer = no_number words _ many c.if-many-eq0.false c.if-many-lt4.false c.first_wrong-wrong.ensures.0 c.if-wrong-many.true; stored = refl }
+
+pub read_values-requires : goal.read_values-requires
+read_values-requires c =
+    let many = c.count_words-many.ensures.0 in
+    let words = words_in c.args.text.now in
+    let four = c.first_four-four.ensures in
+    let told = sym c.in-Right.is ∙ c.judge.ensures words four.says many in
+    record { behind_head = four.goes_on; headed = head_right words 0 many c.if-many-eq0.false c.if-many-lt4.false c.first_wrong-wrong.ensures.0 c.if-wrong-many.false _ told }
+
+pub returns-in-Wrong : goal.returns-in-Wrong
+returns-in-Wrong c =
+    let many = c.count_words-many.ensures.0 in
+    let words = words_in c.args.text.now in
+    let four = c.first_four-four.ensures in
+    let told = sym c.in-Wrong.is ∙ c.judge.ensures words four.says many in
+    record { answer = head_wrong words _ many c.if-many-eq0.false c.if-many-lt4.false c.first_wrong-wrong.ensures.0 c.if-wrong-many.false _ told; stored = refl }
+
+pub returns-in-Right : goal.returns-in-Right
+returns-in-Right c =
+    let many = c.count_words-many.ensures.0 in
+    let words = words_in c.args.text.now in
+    let four = c.first_four-four.ensures in
+    let told = sym c.in-Right.is ∙ c.judge.ensures words four.says many in
+    let read = c.read_values.ensures in
+    record { answer = values_said words _ many c.if-many-eq0.false c.if-many-lt4.false c.first_wrong-wrong.ensures.0 c.if-wrong-many.false _ told read.answer; stored = read.stored }
