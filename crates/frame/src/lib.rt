@@ -3,7 +3,7 @@
 #![tactic(auto)]
 
 ghost use Rattle.frame.specs.Frame.{Measures, Restores, Substitutes, is_special, opens, substitute};
-ghost use Rattle.frame.specs.Frame.{restore as restoreOf};
+ghost use Rattle.frame.specs.Frame.{restore as restore_of};
 ghost use Rattle.lent.specs.Lent.{over_at};
 ghost use Rattle.std.specs.Prelude.{◌≡◌, ◌-◌, length};
 
@@ -88,8 +88,8 @@ struct Turned {
 
 // Lays what one byte is turned back to, which may be nothing. `after` says that such a 94 came last.
 fn restore_one(after: bool, byte: u8, room: &mut [u8], at: usize) -> Turned
-    ensures { (result.more ≡ length (restoreOf after byte)) × (result.after ≡ opens after byte)
-        × (room.new ≡ over_at at (restoreOf after byte) room.old) }
+    ensures { (result.more ≡ length (restore_of after byte)) × (result.after ≡ opens after byte)
+        × (room.new ≡ over_at at (restore_of after byte) room.old) }
 {
     if after {
         lent::lay_at(&[less_64(byte)], room, at);

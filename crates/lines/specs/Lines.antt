@@ -6,6 +6,7 @@ use Rattle.telegram.specs.Read.{fault_number, fault_place}
 use Rattle.text.specs.Text.{ascii, newline, decimal}
 use Rattle.lines.specs.declared.Event.{Event}
 use Rattle.lines.specs.declared.Event.TheVariants.{Read, Refused, Dropped, Open}
+pub use Rattle.text.specs.Text.{Puts}
 
 unfoldable pub header_text : List ℕ
 header_text = ascii "Interbus capture" ++ newline

@@ -2,8 +2,7 @@
 // place behind it, where the next one goes.
 #![tactic(auto)]
 
-ghost use Rattle.text.specs.Text.{Puts};
-ghost use Rattle.lines.specs.Lines.{Writes, header_text, field as fieldText, labelled as labelledText, event_text, line_text, totals_text, ending_text};
+ghost use Rattle.lines.specs.Lines.{Puts, Writes, header_text, field as field_text, labelled as labelled_text, event_text, line_text, totals_text, ending_text};
 ghost use Rattle.std.specs.Prelude.{◌+◌, ◌≤◌, length};
 
 // What became of a frame.
@@ -112,7 +111,7 @@ fn fields(t: telegram::Fields, room: &mut [u8], at: usize) -> usize
 // A word, and a number after a blank.
 fn labelled(text: &[u8], n: u64, room: &mut [u8], at: usize) -> usize
     requires { (at ≤ 300) × (length text.now ≤ 8) }
-    ensures { Puts (labelledText text.now n) at room.old result room.new × (result ≤ at + 29) }
+    ensures { Puts (labelled_text text.now n) at room.old result room.new × (result ≤ at + 29) }
 {
     let a = word(text, room, at);
     field(n, room, a)
@@ -121,7 +120,7 @@ fn labelled(text: &[u8], n: u64, room: &mut [u8], at: usize) -> usize
 // A blank and a number.
 fn field(n: u64, room: &mut [u8], at: usize) -> usize
     requires { at ≤ 400 }
-    ensures { Puts (fieldText n) at room.old result room.new × (result ≤ at + 21) }
+    ensures { Puts (field_text n) at room.old result room.new × (result ≤ at + 21) }
 {
     let a = word(b" ", room, at);
     a + text::decimal_at(n, room, a)

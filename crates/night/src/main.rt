@@ -5,8 +5,11 @@
 ghost use Rattle.night.specs.Turns.{Onward, Carries};
 ghost use Rattle.std.specs.Prelude.{◌≡◌, true, ◌≤◌, ◌<◌, length};
 
-use libc::{STDIN_FILENO, STDOUT_FILENO};
 use lister::{Listing, Outcome};
+use std::io::{Read, Stdin};
+use std::rt::HostRuntime;
+
+const STDOUT_FILENO: i32 = 1;
 
 // Where the program says how the listing ended, since it has no exit status. It does so once all
 // of the listing was taken, and else not at all.
@@ -22,11 +25,11 @@ struct Turn {
     over: bool,
 }
 
-fn main() {
+fn main(rt: HostRuntime) {
     if header() {
         let mut piece = io::large_buffer();
         let mut room = io::large_buffer();
-        capture(&mut piece, &mut room);
+        capture(rt.stdin(), &mut piece, &mut room);
     }
 }
 
@@ -38,12 +41,12 @@ fn header() -> bool {
 }
 
 // Piece by piece, until it is over. That it ends at last is by the places, which run out.
-fn capture(piece: &mut [u8], room: &mut [u8])
+fn capture(input: Stdin, piece: &mut [u8], room: &mut [u8])
     requires { 150 ≤ length room.old }
 {
     let mut listing = lister::begin(0);
     loop {
-        let turn = read_on(listing, piece, room);
+        let turn = read_on(input, listing, piece, room);
         if turn.over {
             return;
         }
@@ -52,15 +55,13 @@ fn capture(piece: &mut [u8], room: &mut [u8])
 }
 
 // Reads once and lists what came, so that a capture is listed while it comes.
-fn read_on(listing: Listing, piece: &mut [u8], room: &mut [u8]) -> Turn
+fn read_on(mut input: Stdin, listing: Listing, piece: &mut [u8], room: &mut [u8]) -> Turn
     requires { 150 ≤ length room.old }
     ensures { Onward listing result × (length room.new ≡ length room.old) }
 {
-    let got = libc::read(STDIN_FILENO, piece);
-    if got < 0 {
+    let Ok(n) = input.read(piece) else {
         return unread(listing);
-    }
-    let n = io::count(got, piece);
+    };
     if n == 0 {
         return finish(listing);
     }

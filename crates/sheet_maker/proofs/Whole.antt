@@ -1,21 +1,21 @@
 -- What was gathered of all lines, and what the calls make of it.
 -- Assumes nothing.
 use mathlib.Core.Path.{◌≡◌, refl, sym, ap, ◌∙◌, subst}
-use mathlib.Core.Bool.{Bool, true, false, cond, ◌&&◌}
+use mathlib.Core.Bool.{Bool}
 use mathlib.Core.List.{List, [], ◌∷◌, ◌++◌}
 use mathlib.Core.Option.{Option, some, none}
-use Prim.Native.Nat.{ℕ, zero, suc, ◌+◌, ◌-◌, ◌*◌, ◌/◌, ◌≤◌, ◌<◌}
+use Prim.Native.Nat.{ℕ, zero, suc, ◌+◌, ◌-◌, ◌*◌, ◌≤◌, ◌<◌}
 use native.Mathlib.Nat.{sub-zero}
 use native.Mathlib.Omega.{arith}
 use borrow.Author.Tests.{lt-ltb, le-ltb}
 use lib.ListN.{length, take, drop, replicate, length-append}
 use Rattle.lent.specs.Lent.{over, over_at}
-use Rattle.lent.proofs.Laws.{over_at_none, take-over, length_over}
+use Rattle.lent.proofs.Laws.{over_at_none, take-over}
 use Rattle.setting.specs.declared.Fault.{Fault as SheetFault}
 use Rattle.first.specs.First.{first_place}
 use Rattle.rows.proofs.Laws.{done_exactly}
 use Rattle.setting.specs.declared.Head.{Head}
-use Rattle.setting.specs.Setting.{Setting, setting, length_of, rows_in, heads}
+use Rattle.setting.specs.Setting.{Setting, length_of, rows_in, heads}
 use Rattle.setting.proofs.Laws.{rows_whole}
 use Rattle.sheet.specs.declared.Record.{Record}
 use Rattle.sheet.specs.Promised.{Sized, Whole}
@@ -32,7 +32,7 @@ use Rattle.sheet_editor.specs.declared.Fault.TheVariants.{Overstated, WrongSheet
 use Rattle.sheet_editor.specs.Editor.{sheet_refusal, add_refusal, among, same_key, edit_answer, Edits, Adds}
 use Rattle.sheet_writer.specs.declared.Writing.{Writing}
 use Rattle.sheet_writer.specs.declared.Writing.TheVariants as writing
-use Rattle.sheet_writer.specs.Writer.{rows_for, handed, write_refusal, write_answer, Writes}
+use Rattle.sheet_writer.specs.Writer.{rows_for, handed, write_answer, Writes}
 use Rattle.sheet_writer.proofs.Laws.{handed_back}
 use Rattle.sheet_line.specs.Words.{words_of}
 use Rattle.sheet_line.specs.Line.{setting_in, said_by, value_in, room_after as line_room, Reads}

@@ -1,13 +1,13 @@
 -- How the settings of a text are gathered: what each line does to what was gathered of the lines before it.
 -- Assumes nothing.
-use Rattle.std.specs.Prelude.{◌≡◌, List, [], ◌∷◌, ◌++◌, ℕ, suc, ◌+◌, ◌*◌, ◌≤◌, ◌<◌, length, drop}
+use Rattle.std.specs.Prelude.{◌≡◌, List, ◌++◌, ℕ, suc, ◌+◌, ◌*◌, ◌≤◌, ◌<◌, length}
 use Rattle.lent.specs.Lent.{over, over_at}
 use Rattle.setting.specs.declared.Head.{Head}
 use Rattle.setting.specs.Setting.{Setting}
 use Rattle.sheet.specs.Sheet.{record_for, values_for}
 use Rattle.sheet_writer.specs.Writer.{rows_for}
 use Rattle.sheet_line.specs.declared.Line.{Line}
-use Rattle.sheet_maker.specs.Maker.{lines_of, settings_from, settings_of, report_of, many_after, nearest, reports_from, reports_of}
+use Rattle.sheet_maker.specs.Maker.{settings_from, settings_of, report_of, many_after, nearest, reports_from, reports_of}
 use Rattle.sheet_maker.specs.declared.gathering.Page.{Page}
 
 -- numbers are told from a place of the list on, as far as it goes: what comes behind them goes on as if it stood there with them

@@ -1,12 +1,12 @@
 -- A settings sheet made of a text, one setting added by a line of text, and a record found by its module and register. docs/SHEETS.md.
 -- Assumes nothing.
-use Rattle.std.specs.Prelude.{◌≡◌, Bool, true, false, cond, ◌&&◌, List, [], ◌∷◌, ◌++◌, ℕ, zero, suc, ◌/◌, eqb, leb, length, get_or, take}
+use Rattle.std.specs.Prelude.{◌≡◌, Bool, true, false, cond, List, [], ◌∷◌, ◌++◌, ℕ, zero, suc, ◌/◌, eqb, leb, length, get_or, take}
 use Rattle.std.proofs.Math.Option.{Option, some, none}
 use Rattle.first.specs.First.{first_place}
 use Rattle.lent.specs.Lent.{over}
 use Rattle.setting.specs.declared.Head.{Head}
 use Rattle.setting.specs.declared.Fault.{Fault as SheetFault}
-use Rattle.setting.specs.Setting.{head, Setting, setting, is_above, heads}
+use Rattle.setting.specs.Setting.{head, Setting, is_above, heads}
 use Rattle.sheet.specs.Sheet.{sheet_of, values_for, count_in, records_in, check_refusal}
 use Rattle.sheet_writer.specs.Writer.{rows_for, write_refusal}
 use Rattle.sheet_editor.specs.Editor.{sheet_refusal, add_refusal, among, same_key, edit_room}

@@ -55,9 +55,9 @@ pub(crate) fn gather(text: &[u8], rows: &mut [u8], values: &mut [u8], list: &mut
 // The first newline from a place on.
 fn line_end(text: &[u8], at: usize) -> usize
     requires { at ≤ length text.now }
-    ensures lower_bound { (at ≤ result) × (result ≤ length text.now) }
-    ensures text_value { result < length text.now → lines_of (drop at text.now) ≡ take (result - at) (drop at text.now) ∷ lines_of (drop (result + 1) text.now) }
-    ensures text_value_2 { length text.now ≤ result → lines_of (drop at text.now) ≡ take (result - at) (drop at text.now) ∷ [] }
+    ensures in_text { (at ≤ result) × (result ≤ length text.now) }
+    ensures line_ended { result < length text.now → lines_of (drop at text.now) ≡ take (result - at) (drop at text.now) ∷ lines_of (drop (result + 1) text.now) }
+    ensures last_line { length text.now ≤ result → lines_of (drop at text.now) ≡ take (result - at) (drop at text.now) ∷ [] }
 {
     let mut i = at;
     while i < text.len() {

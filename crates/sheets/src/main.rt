@@ -3,13 +3,18 @@
 // decides it; this program only reads, calls and writes.
 #![tactic(auto)]
 
+ghost use Rattle.io.specs.Counts.{IsPrefixLen};
 ghost use Rattle.std.specs.Prelude.{◌≤◌, length};
 
-use libc::{STDIN_FILENO, STDOUT_FILENO};
 use sheet::Checked;
 use sheet_editor::Editing;
 use sheet_maker::{Adding, Making};
 use sheet_teller::{Order, Telling};
+use std::env::{Env, FillError};
+use std::io::Read;
+use std::rt::HostRuntime;
+
+const STDOUT_FILENO: i32 = 1;
 
 // Where the program says how it ended, since it has no exit status. That a word is lost needs no
 // telling: whoever waits for it has none.
@@ -55,28 +60,28 @@ struct Input {
     whole: bool,
 }
 
-fn main() {
+fn main(rt: HostRuntime) {
     let mut space = [0u8; SPACE];
     let mut sheet = [0u8; SHEET];
-    lend(&mut space, &mut sheet);
+    lend(rt, &mut space, &mut sheet);
 }
 
 // Lends both their space, once for all. It comes as arrays: lent as slices by `main`, their lengths
 // would be counted up in its proof.
-fn lend(space: &mut [u8; SPACE], sheet: &mut [u8; SHEET]) {
-    run(space, sheet);
+fn lend(rt: HostRuntime, space: &mut [u8; SPACE], sheet: &mut [u8; SHEET]) {
+    run(rt, space, sheet);
 }
 
 // Nothing is read where the arguments are none.
-fn run(space: &mut [u8], sheet: &mut [u8]) {
-    match asked(space) {
-        Command::Make => make(space, sheet),
-        Command::Show => show(space, sheet),
-        Command::Calls(order) => calls(order, space, sheet),
-        Command::Check => check(sheet),
-        Command::RemoveModule(unit) => remove_module(unit, sheet),
-        Command::Remove(unit, register) => remove(unit, register, sheet),
-        Command::Add => add(space, sheet),
+fn run(rt: HostRuntime, space: &mut [u8], sheet: &mut [u8]) {
+    match asked(rt, space) {
+        Command::Make => make(rt, space, sheet),
+        Command::Show => show(rt, space, sheet),
+        Command::Calls(order) => calls(rt, order, space, sheet),
+        Command::Check => check(rt, sheet),
+        Command::RemoveModule(unit) => remove_module(rt, unit, sheet),
+        Command::Remove(unit, register) => remove(rt, unit, register, sheet),
+        Command::Add => add(rt, space, sheet),
         Command::Nothing => say(b"usage\n"),
     }
 }
@@ -84,35 +89,57 @@ fn run(space: &mut [u8], sheet: &mut [u8]) {
 // ---- the arguments
 
 // By how many there are, the program's own name among them.
-fn asked(space: &mut [u8]) -> Command {
-    match os::arg_count() {
-        2 => with_none(space),
-        3 => with_one(space),
-        4 => with_two(space),
-        5 => with_three(space),
+fn asked(rt: HostRuntime, space: &mut [u8]) -> Command {
+    match arg_count(rt) {
+        2 => with_none(rt, space),
+        3 => with_one(rt, space),
+        4 => with_two(rt, space),
+        5 => with_three(rt, space),
         _ => Command::Nothing,
     }
 }
 
-fn with_none(space: &mut [u8]) -> Command {
-    if is_first(b"make", space) {
+// How many there are, and six where they are more.
+fn arg_count(rt: HostRuntime) -> usize {
+    let mut place = [0u8; 1];
+    for i in 0..6 {
+        if let Err(FillError::NotPresent) = rt.arg(i, &mut place) {
+            return i;
+        }
+    }
+    6
+}
+
+// Puts an argument, byte by byte as it is, at the start of the space and answers how long it is; 0
+// where there is none or it is longer than the space.
+fn arg(rt: HostRuntime, i: usize, space: &mut [u8]) -> usize
+    ensures { IsPrefixLen result space.new }
+{
+    match rt.arg(i, space) {
+        Ok(size) => size,
+        Err(_) => 0,
+    }
+}
+
+fn with_none(rt: HostRuntime, space: &mut [u8]) -> Command {
+    if is_first(rt, b"make", space) {
         return Command::Make;
     }
-    if is_first(b"show", space) {
+    if is_first(rt, b"show", space) {
         return Command::Show;
     }
-    if is_first(b"check", space) {
+    if is_first(rt, b"check", space) {
         return Command::Check;
     }
     Command::Nothing
 }
 
-fn with_one(space: &mut [u8]) -> Command {
-    if is_first(b"add", space) {
+fn with_one(rt: HostRuntime, space: &mut [u8]) -> Command {
+    if is_first(rt, b"add", space) {
         return Command::Add;
     }
-    if is_first(b"remove", space) {
-        let unit = number(2, 255, space);
+    if is_first(rt, b"remove", space) {
+        let unit = number(rt, 2, 255, space);
         if unit <= 255 {
             return Command::RemoveModule(unit as u8);
         }
@@ -120,9 +147,9 @@ fn with_one(space: &mut [u8]) -> Command {
     Command::Nothing
 }
 
-fn with_two(space: &mut [u8]) -> Command {
-    if is_first(b"remove", space) {
-        return removal_of(number(2, 255, space), number(3, 255, space));
+fn with_two(rt: HostRuntime, space: &mut [u8]) -> Command {
+    if is_first(rt, b"remove", space) {
+        return removal_of(number(rt, 2, 255, space), number(rt, 3, 255, space));
     }
     Command::Nothing
 }
@@ -137,12 +164,12 @@ fn removal_of(unit: u64, register: u64) -> Command {
     Command::Remove(unit as u8, register as u8)
 }
 
-fn with_three(space: &mut [u8]) -> Command {
-    if is_first(b"calls", space) {
+fn with_three(rt: HostRuntime, space: &mut [u8]) -> Command {
+    if is_first(rt, b"calls", space) {
         return calls_of(
-            number(2, LARGEST, space),
-            number(3, LARGEST, space),
-            number(4, LARGEST, space),
+            number(rt, 2, LARGEST, space),
+            number(rt, 3, LARGEST, space),
+            number(rt, 4, LARGEST, space),
         );
     }
     Command::Nothing
@@ -166,8 +193,8 @@ fn calls_of(job: u64, wait: u64, clock: u64) -> Command {
 }
 
 // Whether the first argument is this word.
-fn is_first(word: &[u8], space: &mut [u8]) -> bool {
-    let size = os::arg(1, space);
+fn is_first(rt: HostRuntime, word: &[u8], space: &mut [u8]) -> bool {
+    let size = arg(rt, 1, space);
     same(&space[..size], word)
 }
 
@@ -187,8 +214,8 @@ fn same(word: &[u8], other: &[u8]) -> bool {
 
 // The number that an argument is, if that is one from 0 to `most`; a larger one where it is not. It
 // is written without a minus.
-fn number(at: usize, most: u32, space: &mut [u8]) -> u64 {
-    let size = os::arg(at, space);
+fn number(rt: HostRuntime, at: usize, most: u32, space: &mut [u8]) -> u64 {
+    let size = arg(rt, at, space);
     unsigned(&space[..size], most)
 }
 
@@ -204,17 +231,15 @@ fn unsigned(word: &[u8], most: u32) -> u64 {
 // ---- the commands
 
 // Reads standard input until it ends or the space is full, and says so where it cannot be read.
-fn read_in(space: &mut [u8]) -> Input
+fn read_in(rt: HostRuntime, space: &mut [u8]) -> Input
     ensures { result.size ≤ length space.new }
 {
     let mut size = 0;
     while size < space.len() {
-        let got = libc::read(STDIN_FILENO, &mut space[size..]);
-        if got < 0 {
+        let Ok(more) = rt.stdin().read(&mut space[size..]) else {
             say(b"unread\n");
             return Input { size, whole: false };
-        }
-        let more = io::count(got, &space[size..]);
+        };
         if more == 0 {
             return Input { size, whole: true };
         }
@@ -223,8 +248,8 @@ fn read_in(space: &mut [u8]) -> Input
     Input { size, whole: true }
 }
 
-fn make(space: &mut [u8], sheet: &mut [u8]) {
-    let input = read_in(space);
+fn make(rt: HostRuntime, space: &mut [u8], sheet: &mut [u8]) {
+    let input = read_in(rt, space);
     let size = input.size;
     if input.whole {
         make_of(&space[0..size], sheet);
@@ -244,16 +269,16 @@ fn make_of(text: &[u8], sheet: &mut [u8]) {
     }
 }
 
-fn show(space: &mut [u8], sheet: &mut [u8]) {
-    let input = read_in(sheet);
+fn show(rt: HostRuntime, space: &mut [u8], sheet: &mut [u8]) {
+    let input = read_in(rt, sheet);
     let size = input.size;
     if input.whole {
         told(sheet_teller::show(&sheet[0..size], space), space);
     }
 }
 
-fn calls(order: Order, space: &mut [u8], sheet: &mut [u8]) {
-    let input = read_in(sheet);
+fn calls(rt: HostRuntime, order: Order, space: &mut [u8], sheet: &mut [u8]) {
+    let input = read_in(rt, sheet);
     let size = input.size;
     if input.whole {
         told(sheet_teller::requests(&sheet[0..size], order, space), space);
@@ -267,8 +292,8 @@ fn told(telling: Telling, text: &[u8]) {
     }
 }
 
-fn check(sheet: &mut [u8]) {
-    let input = read_in(sheet);
+fn check(rt: HostRuntime, sheet: &mut [u8]) {
+    let input = read_in(rt, sheet);
     let size = input.size;
     if input.whole {
         checked(sheet::check(&sheet[0..size]));
@@ -285,15 +310,15 @@ fn checked(outcome: Checked) {
     }
 }
 
-fn remove_module(unit: u8, sheet: &mut [u8]) {
-    let input = read_in(sheet);
+fn remove_module(rt: HostRuntime, unit: u8, sheet: &mut [u8]) {
+    let input = read_in(rt, sheet);
     if input.whole {
         edited(sheet_editor::remove_module(sheet, input.size, unit), sheet);
     }
 }
 
-fn remove(unit: u8, register: u8, sheet: &mut [u8]) {
-    let input = read_in(sheet);
+fn remove(rt: HostRuntime, unit: u8, register: u8, sheet: &mut [u8]) {
+    let input = read_in(rt, sheet);
     let size = input.size;
     if input.whole {
         let index = sheet_maker::find(&sheet[0..size], unit, register);
@@ -308,10 +333,10 @@ fn edited(editing: Editing, sheet: &[u8]) {
     }
 }
 
-fn add(space: &mut [u8], sheet: &mut [u8]) {
-    let input = read_in(sheet);
+fn add(rt: HostRuntime, space: &mut [u8], sheet: &mut [u8]) {
+    let input = read_in(rt, sheet);
     if input.whole {
-        let size = os::arg(2, space);
+        let size = arg(rt, 2, space);
         added(sheet_maker::add(sheet, input.size, &space[..size]), sheet);
     }
 }

@@ -73,6 +73,7 @@ returns-then-number-top c =
     natural-kept _ _ _ _ c.size.ensures c.if-size-eq0.false c.highest-top.ensures _
     c.in-Natural.is c.if-number-top.true
 
+-- where a negative number is taken, its kind is signed and the sum stays within 64 bits
 pub overflow_add-result : goal.overflow_add-result
 overflow_add-result c = omega (
   arith,

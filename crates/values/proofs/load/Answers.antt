@@ -28,6 +28,7 @@ loop-left-init c =
     let all : c.if-left-gt8.left ≡ length (take 8 bytes) = elim c.if-left-gt8.branch [ then-left-gt8 w ↦ omega (arith, length-take 8 bytes) | else-left-gt8 w ↦ omega (arith, length-take 8 bytes) ] in
     start bytes c.if-left-gt8.left all
 
+-- in a turn there is room for one byte more
 pub overflow_mul-value : goal.overflow_mul-value
 overflow_mul-value c = omega (arith, room c.args.bytes.now _ _ (λ i. (c.type_inv.bytes i).fits) c.loop-left-test.true c.loop-left.invariant.1)
 

@@ -92,6 +92,7 @@ returns-then-len-eq0 c =
 pub returns-then-len-n : goal.returns-then-len-n
 returns-then-len-n c = past _ _ _ _ c.size-n.ensures c.if-n-eq0.false c.if-len-eq0.false c.if-len-n-ne0.false c.if-len-n.true
 
+-- past the tests, the element lies within the bytes
 pub overflow_mul-at : goal.overflow_mul-at
 overflow_mul-at c = omega (arith, inside _ _ _ c.if-n-eq0.false c.if-len-n.false)
 
@@ -101,6 +102,7 @@ overflow_add-at c = omega (arith, inside _ _ _ c.if-n-eq0.false c.if-len-n.false
 pub slice_bounds-load-end : goal.slice_bounds-load-end
 slice_bounds-load-end c = inside _ _ _ c.if-n-eq0.false c.if-len-n.false
 
+-- what was loaded is the number of the element's bytes
 pub value_at-requires : goal.value_at-requires
 value_at-requires c =
     let few = few_bytes _ _ c.size-n.ensures c.if-n-eq0.false in (

@@ -1,0 +1,15 @@
+use mathlib.Core.List.{◌++◌}
+use native.Mathlib.Omega.{arith}
+use Rattle.text.specs.Text.{ascii, decimal}
+use Rattle.text.proofs.Laws.{puts_then}
+use Rattle.sheet_teller.proofs.pieces.asked_at.Goals as goal
+
+pub returns : goal.returns
+returns c =
+    let a = c.args in (
+      puts_then (ascii "desk.open " ++ decimal a.job) (ascii " " ++ (decimal a.head.unit ++ (ascii " 5 " ++ (decimal a.head.register ++ ascii " ")))) _ _ _ _ _ _
+          c.numbered-a.ensures.0
+          (puts_then (ascii " " ++ decimal a.head.unit) (ascii " 5 " ++ (decimal a.head.register ++ ascii " ")) _ _ _ _ _ _ c.numbered-b.ensures.0
+          (puts_then (ascii " 5 " ++ decimal a.head.register) (ascii " ") _ _ _ _ _ _ c.numbered-c.ensures.0 c.word.ensures)),
+      omega (arith, c.numbered-a.ensures.1, c.numbered-b.ensures.1, c.numbered-c.ensures.1, c.word.ensures.0),
+    )
