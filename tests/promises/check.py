@@ -229,6 +229,15 @@ def check_crates():
             fault(str(path.relative_to(names.ROOT)), "is not in its Lib.antt, so nothing checks it")
 
 
+def check_exports():
+    """What C links has the symbols of the library crate that promises them, with the same parameters, answers and clauses."""
+    for crate, of in names.EXPORTS.items():
+        ours, theirs = names.exported(crate), names.exported(of)
+        for name in sorted(ours.keys() | theirs.keys()):
+            if ours.get(name) != theirs.get(name):
+                fault(f"crates/{crate}/src", f"{name} is not the export that crates/{of}/src has, or has other clauses")
+
+
 def check_specs():
     """What is promised stands in specs/ alone: neither a definition nor a contract leans on what a proofs/ declares."""
     for path in sorted(names.CRATES.glob("*/specs/**/*.antt")) + sorted(names.CRATES.glob("*/src/**/*.rt")):
@@ -301,6 +310,7 @@ def main(words):
     calls = check_calls(text)
     edits = check_edits(text)
     check_crates()
+    check_exports()
     check_specs()
     check_sample()
     said = ""

@@ -26,16 +26,30 @@ def read(path):
 EXEMPT = {"words", "answers", "telegram_calls", "values_calls", "sheet_calls", "overdue_calls", "desk_calls", "bench_calls", "receiver_calls", "lanes_calls", "varia_calls", "scan_calls"}
 
 
+# Static libraries, each of which exports the calls of a library crate to C and promises what that one promises.
+EXPORTS = {"kamzhor_c": "kamzhor"}
+
+
 @functools.lru_cache(maxsize=None)
 def listed():
-    """The crates of crates.txt, in order, each with those that it stands on."""
+    """The crates of crates.txt, in order, each with those that it stands on. A line is NAME: DEP .. or NAME staticlib: DEP .."""
     lines = (line for line in read(ROOT / "crates.txt").splitlines() if line.strip() and not line.startswith("#"))
-    return {name.strip(): stands_on.split() for name, _, stands_on in (line.partition(":") for line in lines)}
+    return {name.split()[0]: stands_on.split() for name, _, stands_on in (line.partition(":") for line in lines)}
 
 
 def library():
-    """The crates of the product's library: all that have a src/lib.rt, but for those that are exempt by name."""
-    return [c for c in listed() if (CRATES / c / "src" / "lib.rt").is_file() and c not in EXEMPT]
+    """The crates of the product's library: all that have a src/lib.rt, but for those that are exempt by name and those for C."""
+    return [c for c in listed() if (CRATES / c / "src" / "lib.rt").is_file() and c not in EXEMPT and c not in EXPORTS]
+
+
+def exported(crate):
+    """The symbols that a crate's sources have for C, by name: their parameters, answer and clauses, with single blanks."""
+    heads = {}
+    for path in sources(crate, "src", ".rt"):
+        text = re.sub(r"//.*", "", read(path))
+        for found in re.finditer(r'#\[unsafe\(no_mangle\)\]\s+pub extern "C" fn (\w+)', text):
+            heads[found.group(1)] = " ".join(head(text, found.end()).split())
+    return heads
 
 
 @functools.lru_cache(maxsize=None)

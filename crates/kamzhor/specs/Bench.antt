@@ -1,6 +1,6 @@
 -- What the C host is answered by a bench: numbers only.
 -- Assumes nothing.
-use Rattle.std.specs.Prelude.{◌≡◌, List, ℕ}
+use Rattle.std.specs.Prelude.{List, ℕ}
 use Rattle.bench.specs.Build.{Makes, Adds, Sets}
 use Rattle.bench.specs.Register.{Looks, fault_number, fault_place}
 use Rattle.bench.specs.Take.{Takes}

@@ -1,6 +1,6 @@
 -- What the C host is answered of a settings sheet: numbers only.
 -- Assumes nothing.
-use Rattle.std.specs.Prelude.{◌≡◌, List, ℕ}
+use Rattle.std.specs.Prelude.{List, ℕ}
 use Rattle.setting.specs.Setting.{fault_number, head}
 use Rattle.setting.specs.declared.Head.{Head}
 use Rattle.sheet.specs.Sheet.{Checks, Reads}

@@ -1,6 +1,6 @@
 -- What the C host is answered by the telegram writer, the value writer and the catalogue: numbers only.
 -- Assumes nothing.
-use Rattle.std.specs.Prelude.{◌≡◌, Bool, true, false, cond, List, ℕ, ◌-◌, eqb}
+use Rattle.std.specs.Prelude.{Bool, true, false, cond, List, ℕ, ◌-◌, eqb}
 use Rattle.catalogue.specs.Catalogue.{Finds}
 use Rattle.catalogue.specs.declared.Found.{Found}
 use Rattle.catalogue.specs.declared.Found.TheVariants as found

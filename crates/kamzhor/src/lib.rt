@@ -3,13 +3,13 @@
 // and the receiver stand here, each other part of the library in a module of its own.
 #![tactic(auto)]
 
-mod host_bench;
-mod host_box;
-mod host_desk;
-mod host_lanes;
-mod host_scan;
-mod host_sheet;
-mod host_values;
+pub mod host_bench;
+pub mod host_box;
+pub mod host_desk;
+pub mod host_lanes;
+pub mod host_scan;
+pub mod host_sheet;
+pub mod host_values;
 
 ghost use Rattle.kamzhor.specs.Host.{GivesRemainder, GivesFrame, GivesValue, GivesReceiver, GivesStep};
 ghost use Rattle.kamzhor.specs.Host.{frame_number, frame_given, value_number, value_found, is_small, no_line, line_kind, line_frame, step_given};

@@ -1,12 +1,11 @@
 -- The listing's exact text.
 -- Assumes nothing.
-use Rattle.std.specs.Prelude.{◌≡◌, cond, Bool, List, [], ◌++◌, ℕ, eqb, length}
-use Rattle.lent.specs.Lent.{over}
+use Rattle.std.specs.Prelude.{◌≡◌, cond, Bool, List, [], ◌++◌, ℕ, ◌+◌, eqb, length}
+use Rattle.lent.specs.Lent.{over, over_at}
 use Rattle.telegram.specs.Read.{fault_number, fault_place}
 use Rattle.text.specs.Text.{ascii, newline, decimal}
 use Rattle.lines.specs.declared.Event.{Event}
 use Rattle.lines.specs.declared.Event.TheVariants.{Read, Refused, Dropped, Open}
-pub use Rattle.text.specs.Text.{Puts}
 
 unfoldable pub header_text : List ℕ
 header_text = ascii "Interbus capture" ++ newline
@@ -44,3 +43,7 @@ ending_text inside start ok refused dropped = cond inside (line_text start Open)
 
 abbrev pub Writes : List ℕ → List ℕ → ℕ → List ℕ → Type 0
 Writes text room r room' = (r ≡ length text) × (room' ≡ over text room)
+
+-- the same from a place on, for a piece of a text: the place behind it is answered
+abbrev pub Puts : List ℕ → ℕ → List ℕ → ℕ → List ℕ → Type 0
+Puts text at room r room' = (r ≡ at + length text) × (room' ≡ over_at at text room)

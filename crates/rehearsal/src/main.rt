@@ -8,14 +8,19 @@ use desk::Desk;
 use desk_calls::Heard;
 use lanes::Lanes;
 use lanes_calls::Hall;
-use libc::{STDERR_FILENO, STDIN_FILENO, STDOUT_FILENO};
 use overdue_calls::{ENTRIES, UNUSED};
 use receiver_calls::Line;
 use scan::Scan;
 use scan_calls::{Hearers, Shift};
+use std::io::{Read, Stdin};
+use std::rt::HostRuntime;
 use varia::FilterBox;
 use varia_calls::Rig;
 use words::Words;
+
+const STDOUT_FILENO: i32 = 1;
+
+const STDERR_FILENO: i32 = 2;
 
 // A line that is longer than this is a bad line.
 const LONGEST: usize = 65536;
@@ -56,35 +61,33 @@ struct Said {
     at: usize,
 }
 
-fn main() {
+fn main(rt: HostRuntime) {
     let mut line = [0u8; LONGEST];
     let mut out = [0u8; LONGEST_ANSWER];
-    lend(&mut line, &mut out);
+    lend(rt.stdin(), &mut line, &mut out);
 }
 
 // Lends the line and the answer their space, once for all. It comes as arrays: lent as slices by
 // `main`, their lengths would be counted up in its proof, and the answer's is too long for that.
-fn lend(line: &mut [u8; LONGEST], out: &mut [u8; LONGEST_ANSWER]) {
-    run(line, out);
+fn lend(input: Stdin, line: &mut [u8; LONGEST], out: &mut [u8; LONGEST_ANSWER]) {
+    run(input, line, out);
 }
 
 // Reads chunk after chunk. Half a line at which reading fails is not answered.
-fn run(line: &mut [u8], out: &mut [u8]) {
+fn run(mut input: Stdin, line: &mut [u8], out: &mut [u8]) {
     let mut chunk = io::large_buffer();
     let mut gathered = next_line(nothing(), 0);
     let mut budget: u64 = 18446744073709551615;
     while 0 < budget {
         budget -= 1;
-        let got = libc::read(STDIN_FILENO, &mut chunk);
-        if got < 0 {
+        let Ok(n) = input.read(&mut chunk) else {
             tell(
                 b"rehearsal: the calls could not be read further; answers written: ",
                 gathered.answered,
                 out,
             );
             return;
-        }
-        let n = io::count(got, &chunk);
+        };
         if n == 0 {
             break;
         }

@@ -5,8 +5,9 @@
 
 use bench::{Bench, Register};
 use desk::{Desk, Request, Ticket};
-use libc::STDOUT_FILENO;
 use marks::Marks;
+
+const STDOUT_FILENO: i32 = 1;
 
 // Its type is no request's, it has no time to wait, and it is open and was given up at 7 at once.
 const ODD: Ticket = Ticket {

@@ -11,9 +11,12 @@
 //     bit NUMBER PLACE
 #![tactic(auto)]
 
-use libc::{STDIN_FILENO, STDOUT_FILENO};
 use values::{Fault, Stored, Value};
 use words::{Words, byte, count};
+
+const STDIN_FILENO: i32 = 0;
+
+const STDOUT_FILENO: i32 = 1;
 
 fn say(text: &[u8]) {
     io::write_all(STDOUT_FILENO, text);

@@ -1,0 +1,6 @@
+-- `kamzhor_after_box_set_short` sets the short-pass edge of the box that numbers mean, told in numbers.
+-- Assumes nothing.
+use Rattle.kamzhor.proofs.host_box.kamzhor_after_box_set_short.Goals as goal
+
+pub returns : goal.returns
+returns c = (_, rw c.meant_box.ensures at c.set_short.ensures, c.of_ask.ensures)

@@ -1,0 +1,9 @@
+-- `of_written` tells how long a telegram was written.
+-- Assumes nothing.
+use Rattle.kamzhor.proofs.host_values.of_written.Goals as goal
+
+pub returns-in-Refused : goal.returns-in-Refused
+returns-in-Refused c = rw (c.in-Refused.is, c.no_size.ensures, c.number.ensures)
+
+pub returns-in-Written : goal.returns-in-Written
+returns-in-Written c = rw (c.in-Written.is, c.size_of.ensures)
