@@ -3,7 +3,7 @@
  * of its own and books each reply on one ticket, lanes in front of it, a filter box, a scan of the line, settings sheets, and a
  * bench to test against. docs/C.md is the guide: the life of a ticket, which call when, and what each number asks of the host.
  *
- * Link with libkamzhor.a, which `rt staticlib kamzhor` writes to target/staticlib (x86-64 Linux):
+ * Link with libkamzhor.a, which `tools/archive` writes to target/staticlib (x86-64 Linux):
  *
  *     cc -I include host.c target/staticlib/libkamzhor.a -o host
  *
@@ -22,7 +22,7 @@
  * room. One desk belongs to one thread, or to one lock, together with its lanes, boxes and scan.
  *
  * Stack, with what passes by value: under 1 KiB for the calls on bytes and numbers and for sheets, under 8 KiB for kamzhor_step and a
- * bench, under 32 KiB for the desk, a box and a scan, under 128 KiB for lanes. A thread that calls these needs more than the least.
+ * bench, under 32 KiB for the desk and a scan, under 40 KiB for a box, under 192 KiB for lanes. A thread that calls these needs more than the least.
  *
  * Memory: every pointer to bytes comes with its length, in bytes, and one to a list with its entries; one to a tally or a state
  * is to one whole struct. What is lent stays the caller's; the library reads and writes it during the call only, never past its

@@ -3,8 +3,8 @@
  *
  *     examples/host/build && tools/launch target/host/example <capture
  *
- * builds it with the Rattle toolchain's own compiler and linker, on any machine that has it. On x86-64 Linux, once
- * `rt staticlib kamzhor` has written the archive, this does it too:
+ * builds it with the Rattle toolchain's own compiler and linker. Once `tools/archive` has written the archive, this does it
+ * too:
  *
  *     cc -I include -o example examples/host/host.c target/staticlib/libkamzhor.a
  */

@@ -3,7 +3,7 @@
  *
  *     examples/host/build && driver | tools/launch target/host/stream
  *
- * On x86-64 Linux, once `rt staticlib kamzhor` has written the archive, this builds it too:
+ * Once `tools/archive` has written the archive, this builds it too:
  *
  *     cc -I include -o stream examples/host/stream.c target/staticlib/libkamzhor.a
  */

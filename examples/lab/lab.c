@@ -2,7 +2,7 @@
  * fate is printed. README.md beside this file says what happens; the comments below name its parts.
  *
  *     examples/lab/build && tools/launch target/lab
- *     cc -I include -o lab examples/lab/lab.c target/staticlib/libkamzhor.a     (on x86-64 Linux, with the archive there)
+ *     cc -I include -o lab examples/lab/lab.c target/staticlib/libkamzhor.a     (with the archive there, as tools/archive writes it)
  *
  * To make a host of it: put your port into port_write and port_read, your clock into play and your jobs into ask. The draws, the
  * benches and the bad line then go away, and the rest stays as it is.

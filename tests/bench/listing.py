@@ -1,6 +1,6 @@
 """listing.py OURS THEIRS CAPTURE..: runs two programs on each capture and on its first bytes, compares what they write, and
 prints what the rest of the capture takes as ns for each byte: the median processor time of whole runs, less that of runs
-on the first bytes. So neither the start of a program counts nor the emulator's first look at its code."""
+on the first bytes. So the start of a program does not count."""
 import os
 import statistics
 import subprocess

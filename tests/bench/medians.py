@@ -1,6 +1,6 @@
 """medians.py: reads the lines of several runs of bench and prints, for each input and call, the median of the runs, with the
-least and the greatest. A run of its own has one place in memory for each thing, and under an emulator that place alone
-can double a time; so one run says little."""
+least and the greatest. A run of its own has one place in memory for each thing, and that place alone can change a time; so one
+run says little."""
 import statistics
 import sys
 

@@ -27,6 +27,9 @@ PAIRS = {
 # an entry of the list of numbers that kamzhor_after_desk_expire_all is lent: no struct in the library
 ENTRY = {"kamzhor_due": [("job", "u32"), ("address", "u32"), ("folder", "u32")]}
 
+# the crate whose calls are those of the archive
+EXPORTS = "kamzhor_c"
+
 # what a field or a parameter is called there and here
 RENAMED = {"unit": "module", "sort": "type", "register": "reg", "short": "short_pass", "long": "long_pass", "filters": "box",
            "head": "setting", "at": "place"}
@@ -51,18 +54,20 @@ def same(what, ours, theirs):
 # ---- the library's side
 
 def sources(crates):
-    """Its structs as lists of fields and their types, and its calls."""
+    """Its structs as lists of fields and their types, and the archive's calls."""
     structs, calls, marked = {}, {}, 0
     for path in sorted(pathlib.Path(crates).glob("*/src/*.rt")):
         text = re.sub(r"^\s*//.*\n", "", path.read_text(encoding="utf-8"), flags=re.M)
         marked += text.count("#[repr(C)]")
         for name, value in re.findall(r"^(?:pub )?const (\w+): usize = (\d+);", text, flags=re.M):
             text = text.replace(f"; {name}]", f"; {value}]")
-        for name, body in re.findall(r"#\[repr\(C\)\]\s*pub struct (\w+) \{\n(.*?)\n\}", text, flags=re.S):
+        for name, body in re.findall(r"#\[repr\(C\)\]\s*(?:#\[[^\]]*\]\s*)*pub struct (\w+) \{\n(.*?)\n\}", text, flags=re.S):
             if name in structs:
                 fail(f"two structs are called {name}")
             structs[name] = re.findall(r"^    pub (\w+): (.+),$", body, flags=re.M)
             same(f"the lines of {name}", len(structs[name]), len(body.split("\n")))
+        if path.parts[-3] != EXPORTS:
+            continue
         for name, parameters, gives in re.findall(r'extern "C" fn (\w+)(?:<\'a>)?\(([^)]*)\)\s*->\s*(\w+)', text):
             listed = [p.strip() for p in parameters.split(",") if p.strip()]
             calls[name] = [tuple(p.split(": ")) for p in listed], gives

@@ -6,11 +6,12 @@
 
 #define PAINT 0xC5
 #define SHALLOW 16384 /* as much as is painted for calls on bytes, and on states */
-#define DEEP 163840
+#define DEEP 262144
 #define BYTES 1024 /* what is said of the calls on each */
 #define STEP 8192
 #define DESK 32768
-#define LANES 131072
+#define BOX 40960
+#define LANES 196608
 #define BENCH 8192
 
 static uint8_t stack[DEEP] __attribute__((aligned(16)));
@@ -398,11 +399,11 @@ int main(void)
         {"kamzhor_lanes_grant", lanes_grant, on_states, LANES},
         {"kamzhor_lanes_withdraw", lanes_withdraw, on_states, LANES},
         {"kamzhor_box_fresh", box_fresh, once, BYTES},
-        {"kamzhor_box_set_short", box_set_short, on_states, DESK},
-        {"kamzhor_box_set_long", box_set_long, on_states, DESK},
-        {"kamzhor_box_attenuate", box_attenuate, on_states, DESK},
-        {"kamzhor_box_read_monitor", box_read_monitor, on_states, DESK},
-        {"kamzhor_box_read_status", box_read_status, on_states, DESK},
+        {"kamzhor_box_set_short", box_set_short, on_states, BOX},
+        {"kamzhor_box_set_long", box_set_long, on_states, BOX},
+        {"kamzhor_box_attenuate", box_attenuate, on_states, BOX},
+        {"kamzhor_box_read_monitor", box_read_monitor, on_states, BOX},
+        {"kamzhor_box_read_status", box_read_status, on_states, BOX},
         {"kamzhor_box_reply, _close", box_hear, on_states, BYTES},
         {"kamzhor_scan_fresh", scan_fresh, once, BYTES},
         {"kamzhor_scan_step", scan_step, on_states, DESK},

@@ -40,7 +40,7 @@ def program(command):
                 continue
             above[int(number.split()[0])] = int(rest.split()[1]), words
         for number, (parent, words) in above.items():
-            while b"target/bin/night" in words and parent in above:
+            while b"crates/night/out/night" in words and parent in above:
                 if parent == command.pid:
                     return number
                 parent = above[parent][0]
