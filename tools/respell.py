@@ -5,8 +5,8 @@ usage: tools/respell.py        at the top of a checkout, once, right after the t
 
 tools/respell.txt has a line for each name: the old one, the new one, `field` where a record has a field of that name, and `clause`
 where clauses of src/ have it though a function might. Only definitions, lemmas, fields and local names of specs/ and proofs/ are in
-it. Functions of src/, exported names, strings, inputs and outputs keep their spelling. A name in a proof that follows a function's steps (proofs/F/Proof.antt) is left alone behind a dot,
-unless it is a field: what stands there is the toolchain's.
+it. Functions of src/, exported names, strings, inputs and outputs keep their spelling. A name in a proof that follows a function's
+steps (proofs/F/Proof.antt) is left alone behind a dot, unless it is a field: what stands there is the toolchain's.
 """
 
 import glob
@@ -15,6 +15,7 @@ import re
 
 HERE = os.path.dirname(os.path.realpath(__file__))
 CAMEL = re.compile(r"[a-z][a-z0-9]*[A-Z]")  # in src/ no function or variable is spelled so, only words of clauses
+CLAUSE = re.compile(r"^ghost use |^ +(?:requires|ensures)\b[^{\n]*\{", re.M)
 TOKEN = re.compile(r"«[^»]*»|\"[^\"\n]*\"|[^\s(){}\[\],;.:=«»\"`]+")
 
 
@@ -27,9 +28,6 @@ def table():
             for mark in more:
                 marked[mark].add(old)
     return names, marked
-
-
-CLAUSE = re.compile(r"^ghost use |^ +(?:requires|ensures)\b[^{\n]*\{", re.M)
 
 
 def clauses(text):
