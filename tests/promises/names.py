@@ -109,7 +109,7 @@ class Call:
     def __init__(self, crate, path, name, said, uses):
         self.crate, self.path, self.name = crate, path, name
         self.requires = re.search(r"\brequires\b", said) is not None
-        stated = re.findall(r"\bensures\s*\{(.*?)\}", said, re.S)
+        stated = [said[m.end() : past(said, m.end() - 1) - 1] for m in re.finditer(r"\bensures\s*\{", said)]
         answer, relation = "result", stated[0] if len(stated) == 1 else ""
         named = re.match(r"\s*([A-Z]\w*)\s", relation)
         self.contract = named.group(1) if named and not re.search(r"[≡×⊎→]", relation) else None
@@ -118,7 +118,7 @@ class Call:
         lent = [f"{room}.new" for room in re.findall(r"(\w+):\s*&\s*mut\b", said)]
         self.unsaid = [part for part in given + lent + [answer] * ("->" in said) if not re.search(rf"\b{part}\b", relation)]
         # and what it may speak of: each of these as it is, or what a definition of a specs/ makes of it, but no number and no sum
-        known = {*given, answer, "now", "old", "new", "entry", "exit", *uses}
+        known = {*given, answer, "now", "old", "new", *uses}
         self.beside = [word for word in re.findall(r"[^\s().«»]+", relation) if word not in known]
         self.home = uses.get(self.contract)
 
