@@ -1,13 +1,13 @@
 -- The laws of `over` and `over_at` that whoever lends or fills a buffer may cite.
 -- Assumes nothing.
-use mathlib.Core.Path.{◌≡◌, refl, ap, ap₂, ◌∙◌}
+use mathlib.Core.Path.{◌≡◌, refl, sym, ap, ap₂, ◌∙◌}
 use mathlib.Core.List.{List, [], ◌∷◌, ◌++◌, append-nil}
 use Prim.Native.Nat.{ℕ, zero, suc, ◌+◌, ◌-◌, ◌≤◌, ◌<◌}
 use native.Mathlib.Nat.{le_of_suc-le-suc, not-suc-le-zero, add-suc, suc-add}
 use native.Mathlib.Numerals.{add-one}
 use native.Mathlib.Omega.{arith}
 use lib.ListN.{length, get_or, take, drop, set, length-drop, drop_of_length-le}
-use lib.Seq.{drop-cons, take_all}
+use lib.Seq.{drop-cons, drop-drop, take_all}
 use Rattle.rows.proofs.Settled.{settled}
 use Rattle.rows.specs.Settled.{Settled}
 use Rattle.lent.specs.Lent.{over, over_at, Lays, Moves}
@@ -83,6 +83,13 @@ unfolding over_at
 lay_from zero xs room h = refl
 lay_from (suc at) xs [] h = absurd (not-suc-le-zero h)
 lay_from (suc at) xs (y ∷ room) h = ap (λ (l : List ℕ). y ∷ l) (lay_from at xs room (le_of_suc-le-suc h))
+
+-- what is laid where there is room for all of it stands between what was before and behind that place
+pub over_at_is : (at : ℕ) (xs room : List ℕ) → at + length xs ≤ length room → over_at at xs room ≡ take at room ++ (xs ++ drop (at + length xs) room)
+over_at_is at xs room h =
+    sym (lay_from at xs room (omega (arith, h)))
+    ∙ ap (λ (l : List ℕ). take at room ++ l) (over_is xs (drop at room) (rw (length-drop at room) (omega (arith, h))))
+    ∙ ap (λ (l : List ℕ). take at room ++ (xs ++ l)) (drop-drop (length xs) at room)
 
 -- as what `&mut room[at..]` lends comes back
 pub lay_part : (at : ℕ) (xs room part : List ℕ) → at ≤ length room → part ≡ over xs (take (length room - at) (drop at room))

@@ -1,7 +1,7 @@
--- What moving bytes within a buffer comes to, one byte after the other, and what is laid over what was laid.
+-- What laying bytes and moving them within a buffer comes to, and what is laid over what was laid.
 -- Assumes nothing.
 use mathlib.Core.Path.{◌≡◌, refl, sym, ap, ◌∙◌}
-use mathlib.Core.List.{List, [], ◌∷◌, ◌++◌}
+use mathlib.Core.List.{List, [], ◌∷◌, ◌++◌, append_assoc}
 use mathlib.Core.Bool.{Bool, true, false, cond}
 use mathlib.Core.Logic.{◌⊎◌, inl, inr, ⊎_elim}
 use Prim.Native.Nat.{ℕ, zero, suc, ◌+◌, ◌-◌, ◌≤◌, ◌<◌, min}
@@ -9,10 +9,13 @@ use native.Mathlib.Nat.{le_of_suc-le-suc, not-suc-le-zero, add-suc, suc-add}
 use native.Mathlib.Omega.{arith}
 use borrow.Author.Tests.{leb-true, leb-false}
 use lib.Dec.{leb}
-use lib.ListN.{length, get_or, take, drop, set, length-drop, length-set, length-take, drop_of_length-le}
-use lib.Seq.{drop-cons, drop-drop, drop-set-lt, take_all, take-nil, get_or-take, get_or-drop}
+use lib.ListN.{length, get_or, take, drop, length-drop, length-take, drop_of_length-le}
+use lib.Seq.{take_all, take-nil, length-take-le, paste, get_or-take, get_or-drop}
+use borrow.Rule.Slice.PartMut.{put_mid}
+use Rattle.std.proofs.lemmas.Slice.{put_mid-paste}
+use Rattle.std.specs.List.{copy_within}
 use Rattle.lent.specs.Lent.{over, over_at, Moves}
-use Rattle.lent.proofs.Laws.{over_at_none, over_at_past, over_at_set, length-over_at}
+use Rattle.lent.proofs.Laws.{over_at_none, over_at_past, over_at_is, length-over_at}
 
 -- a part of a part
 pub drop-take : (j m : ℕ) (l : List ℕ) → j ≤ m → drop j (take m l) ≡ take (m - j) (drop j l)
@@ -167,123 +170,38 @@ none_there room from to size h =
 pub no_place : (room : List ℕ) (from to size : ℕ) → length room ≤ to → Moves room from to size room
 no_place room from to size h = sym (over_at_past to (take size (drop from room)) room h)
 
--- ---- down: what is still to be moved, laid over what there is by now, gives the result; and behind that all is as it was
+-- ---- what the library's copies do is to lay
 
-pub record Down (before : List ℕ) (from to size : ℕ) (room : List ℕ) (i : ℕ) : Type 0 where
-  pub within : i ≤ size
-  pub long : length room ≡ length before
-  pub moved : over_at (to + i) (take (size - i) (drop (from + i) before)) room ≡ over_at to (take size (drop from before)) before
-  pub behind : drop (from + i) room ≡ drop (from + i) before
+-- so many bytes put in the place of as many
+pasted : (room xs : List ℕ) (at n : ℕ) → n ≤ length xs → at + n ≤ length room → paste room at xs n ≡ over_at at (take n xs) room
+pasted room xs at n there fits =
+    let many : length (take n xs) ≡ n = length-take-le n xs there in
+    append_assoc (take at room) (take n xs) (drop (at + n) room)
+    ∙ ap (λ (m : ℕ). take at room ++ (take n xs ++ drop (at + m) room)) (sym many)
+    ∙ sym (over_at_is at (take n xs) room (omega (arith, many, fits)))
 
-pub down_start : (room : List ℕ) (from to size : ℕ) → Down room from to size room 0
-down_start room from to size =
-    record {
-      within = omega arith;
-      long = refl;
-      moved = rw (start to, start from, whole size) refl;
-      behind = refl;
-    }
-  where
-    start : (n : ℕ) → n + 0 ≡ n
-    start n = omega arith
+pub moved : (room : List ℕ) (from to size there n : ℕ) (room' : List ℕ) → from < length room → to < length room
+    → there ≡ cond (leb size (length room - from)) size (length room - from) → n ≡ cond (leb there (length room - to)) there (length room - to)
+    → room' ≡ copy_within room from (from + n) to → Moves room from to size room'
+moved room from to size there n room' source target p q copied =
+    let within = both_within (length room) from to size there n source target p q in
+    let many : from + n - from ≡ n = omega arith in
+    as_many room from to size there n room' p q
+    (copied ∙ ap (λ (m : ℕ). paste room to (drop from room) m) many
+    ∙ pasted room (drop from room) to n (rw (length-drop from room) (omega (arith, within.0))) within.1)
 
-    whole : (n : ℕ) → n - 0 ≡ n
-    whole n = omega arith
-
-head_is : {x y : ℕ} {xs ys : List ℕ} → x ∷ xs ≡ y ∷ ys → x ≡ y
-head_is e = cc
-
-pub down_on : (before : List ℕ) (from to size : ℕ) (room : List ℕ) (i : ℕ) → to ≤ from → from + size ≤ length before → i < size
-    → Down before from to size room i → Down before from to size (set room (to + i) (get_or room (from + i) 0)) (i + 1)
-down_on before from to size room i low fits more d =
-    let long = d.long in
-    let here : from + i < length before = omega (arith, fits, more) in
-    let there : to + i < length room = omega (arith, fits, more, low, long) in
-    let left : size - i ≡ suc (size - (i + 1)) = omega (arith, more) in
-    let next : (n : ℕ) → n + (i + 1) ≡ suc (n + i) = (λ n. omega arith) in
-    let byte : get_or room (from + i) 0 ≡ get_or before (from + i) 0 =
-    first_of_lem room before (from + i) (omega (arith, here, long)) here d.behind in
-    let rest = drop-cons before (from + i) 0 here in
-    record {
-      within = omega (arith, more);
-      long = length-set room (to + i) (get_or room (from + i) 0) ∙ long;
-      moved =
-          ap (λ (n : ℕ). over_at n (take (size - (i + 1)) (drop (from + (i + 1)) before)) (set room (to + i) (get_or room (from + i) 0))) (next to)
-          ∙ ap (λ (n : ℕ). over_at (suc (to + i)) (take (size - (i + 1)) (drop n before)) (set room (to + i) (get_or room (from + i) 0))) (next from)
-          ∙ over_at_set (to + i) (get_or room (from + i) 0) (take (size - (i + 1)) (drop (suc (from + i)) before)) room there
-          ∙ ap (λ (b : ℕ). over_at (to + i) (b ∷ take (size - (i + 1)) (drop (suc (from + i)) before)) room) byte
-          ∙ ap (λ (l : List ℕ). over_at (to + i) (take (suc (size - (i + 1))) l) room) (sym rest)
-          ∙ ap (λ (n : ℕ). over_at (to + i) (take n (drop (from + i) before)) room) (sym left)
-          ∙ d.moved;
-      behind =
-          drop-set-lt (from + (i + 1)) room (to + i) (get_or room (from + i) 0) (omega (arith, low))
-          ∙ further room ∙ ap (drop 1) d.behind ∙ sym (further before);
-    }
-  where
-    further : (l : List ℕ) → drop (from + (i + 1)) l ≡ drop 1 (drop (from + i) l)
-    further l = let e : from + (i + 1) ≡ from + i + 1 = omega arith in ap (λ (n : ℕ). drop n l) e ∙ sym (drop-drop 1 (from + i) l)
-
-    first_of_lem : (a b : List ℕ) (j : ℕ) → j < length a → j < length b → drop j a ≡ drop j b → get_or a j 0 ≡ get_or b j 0
-    first_of_lem a b j p q e = let x = drop-cons a j 0 p in let y = drop-cons b j 0 q in head_is (sym x ∙ e ∙ y)
-
-pub down_done : (before : List ℕ) (from to size : ℕ) (room : List ℕ) (i : ℕ) → size ≤ i → Down before from to size room i → Moves before from to size room
-down_done before from to size room i all d =
-    let none : size - i ≡ 0 = omega (arith, all) in
-    sym (over_at_none (to + i) room) ∙ ap (λ (n : ℕ). over_at (to + i) (take n (drop (from + i) before)) room) (sym none) ∙ d.moved
-
--- ---- up: what was moved so far, the last bytes, stands laid over the room as it was
-
-set_ahead : (k x : ℕ) (xs d : List ℕ) → k < length d → set (over_at (suc k) xs d) k x ≡ over_at k (x ∷ xs) d
-unfolding over_at over
-set_ahead k x xs [] h = absurd (not-suc-le-zero h)
-set_ahead zero x xs (y ∷ d) h = refl
-set_ahead (suc k) x xs (y ∷ d) h = ap (λ (l : List ℕ). y ∷ l) (set_ahead k x xs d (le_of_suc-le-suc h))
-
-pub record Up (before : List ℕ) (from to size : ℕ) (room : List ℕ) (i : ℕ) : Type 0 where
-  pub within : i ≤ size
-  pub long : length room ≡ length before
-  pub moved : room ≡ over_at (to + (size - i)) (take i (drop (from + (size - i)) before)) before
-
-pub up_start : (room : List ℕ) (from to size : ℕ) → Up room from to size room 0
-up_start room from to size = record { within = omega arith; long = refl; moved = sym (over_at_none (to + (size - 0)) room) }
-
-pub up_on : (before : List ℕ) (from to size : ℕ) (room : List ℕ) (i left : ℕ) → from < to → to + size ≤ length before → i < size → left ≡ size - i - 1
-    → Up before from to size room i → Up before from to size (set room (to + left) (get_or room (from + left) 0)) (i + 1)
-up_on before from to size room i left low fits more is u =
-    let now : size - (i + 1) ≡ left = omega (arith, is) in
-    let was : size - i ≡ suc left = omega (arith, is, more) in
-    let next : (n : ℕ) → n + suc left ≡ suc (n + left) = (λ n. omega arith) in
-    let laid : room ≡ over_at (suc (to + left)) (take i (drop (suc (from + left)) before)) before =
-    u.moved
-    ∙ ap (λ (k : ℕ). over_at (to + k) (take i (drop (from + k) before)) before) was
-    ∙ ap (λ (k : ℕ). over_at k (take i (drop (from + suc left) before)) before) (next to)
-    ∙ ap (λ (k : ℕ). over_at (suc (to + left)) (take i (drop k before)) before) (next from) in
-    let byte : get_or room (from + left) 0 ≡ get_or before (from + left) 0 =
-    ap (λ (l : List ℕ). get_or l (from + left) 0) laid
-    ∙ get_d_before (from + left) (suc (to + left)) (take i (drop (suc (from + left)) before)) before (omega (arith, low)) in
-    let rest = drop-cons before (from + left) 0 (omega (arith, low, fits, is, more)) in
-    let one_more : i + 1 ≡ suc i = omega arith in
-    record {
-      within = omega (arith, more);
-      long = length-set room (to + left) (get_or room (from + left) 0) ∙ u.long;
-      moved =
-          ap (λ (l : List ℕ). set l (to + left) (get_or room (from + left) 0)) laid
-          ∙ set_ahead (to + left) (get_or room (from + left) 0) (take i (drop (suc (from + left)) before)) before (omega (arith, fits, is, more))
-          ∙ ap (λ (b : ℕ). over_at (to + left) (b ∷ take i (drop (suc (from + left)) before)) before) byte
-          ∙ ap (λ (l : List ℕ). over_at (to + left) (take (suc i) l) before) (sym rest)
-          ∙ ap (λ (k : ℕ). over_at (to + left) (take k (drop (from + left) before)) before) (sym one_more)
-          ∙ ap (λ (k : ℕ). over_at (to + k) (take (i + 1) (drop (from + k) before)) before) (sym now);
-    }
-
-pub up_done : (before : List ℕ) (from to size : ℕ) (room : List ℕ) (i : ℕ) → size ≤ i → Up before from to size room i → Moves before from to size room
-up_done before from to size room i all u =
-    let under = u.within in
-    let same : i ≡ size = omega (arith, all, under) in
-    let none : (n : ℕ) → n + (size - i) ≡ n = (λ n. omega (arith, same)) in
-    u.moved
-    ∙ ap (λ (k : ℕ). over_at k (take i (drop (from + (size - i)) before)) before) (none to)
-    ∙ ap (λ (k : ℕ). over_at to (take i (drop k before)) before) (none from)
-    ∙ ap (λ (k : ℕ). over_at to (take k (drop from before)) before) same
+pub laid : (bytes room part : List ℕ) (at size : ℕ) → at < length room
+    → size ≡ cond (leb (length bytes) (length room - at)) (length bytes) (length room - at) → part ≡ take size bytes
+    → put_mid at (at + size - at) room part ≡ over_at at bytes room
+laid bytes room part at size target p copied =
+    let least = least_of size (length bytes) (length room - at) p in
+    let many : size ≡ at + size - at = omega arith in
+    let whole : length (take size bytes) ≡ size = length-take-le size bytes least.0 in
+    put_mid-paste at (at + size - at) room part (take size bytes) size copied many (sym whole)
+    ∙ pasted room (take size bytes) at size (omega (arith, whole)) (omega (arith, target, least.1))
+    ∙ ap (λ (l : List ℕ). over_at at l room) (take_all size (take size bytes) (omega (arith, whole)))
+    ∙ ⊎_elim (λ e. ap (λ (l : List ℕ). over_at at l room) (take_all size bytes (omega (arith, e))))
+    (λ e. over_at_room at size bytes room (omega (arith, e))) least.2
 
 -- ---- what a move is, place by place
 
