@@ -11,10 +11,8 @@ pub fn remainder(bytes: &[u8]) -> u16
 {
     let halves = HALVES;
     let mut sum: usize = 0;
-    let mut i = 0;
-    while i < bytes.len() {
-        sum = with_byte(sum, bytes[i], &halves);
-        i += 1;
+    for byte in bytes {
+        sum = with_byte(sum, *byte, &halves);
     }
     sum as u16
 }

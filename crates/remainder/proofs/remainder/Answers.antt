@@ -14,23 +14,21 @@ step : (bytes : List ℕ) (i sum next w : ℕ) → i < length bytes → next ≡
 unfolding with_bytes
 step bytes i sum next w h e inv = rw (add-one, e) (rw (drop-cons bytes i 0 h) at inv)
 
-pub loop-i-init : goal.loop-i-init
+pub loop-byte-init : goal.loop-byte-init
 unfolding remainder_of
-loop-i-init c = (omega arith, refl, omega arith)
+loop-byte-init c = (refl, omega arith)
 
 pub with_byte-sum-requires : goal.with_byte-sum-requires
-with_byte-sum-requires c = (c.loop-i.invariant.2, table_right)
+with_byte-sum-requires c = (c.loop-byte.invariant.1, table_right)
 
-pub loop-i-preserved : goal.loop-i-preserved
-loop-i-preserved c =
-    let loop = c.loop-i in (
-      omega arith,
-      step _ _ _ _ _ c.loop-i-test.true c.with_byte-sum.ensures loop.invariant.1,
-      rw c.with_byte-sum.ensures (byte_under _ _ loop.invariant.2),
-    )
+pub loop-byte-preserved : goal.loop-byte-preserved
+loop-byte-preserved c =
+    let loop = c.loop-byte in
+    let added = c.with_byte-sum.ensures in
+    (step _ _ _ _ _ c.loop-byte-test.true added loop.invariant.0, rw added (byte_under _ _ loop.invariant.1))
 
 pub returns : goal.returns
 unfolding with_bytes
 returns c =
-    let end : drop c.loop-i.i c.args.bytes.now ≡ [] = drop_of_length-le _ c.loop-i-test.false in
-    rw end at c.loop-i.invariant.1
+    let end : drop c.loop-byte.byte-index c.args.bytes.now ≡ [] = drop_of_length-le _ c.loop-byte-test.false in
+    rw end at c.loop-byte.invariant.0
