@@ -1,13 +1,15 @@
 -- The laws of substitution and of frames.
 -- Assumes nothing.
-use mathlib.Core.Path.{◌≡◌, refl, ap}
+use mathlib.Core.Path.{◌≡◌, refl, sym, ap, ◌∙◌}
 use mathlib.Core.Logic.{◌⊎◌, ⊎_elim, ◌↔◌}
 use mathlib.Core.Bool.{Bool, true, false, cond}
 use mathlib.Core.List.{List, [], ◌∷◌, ◌++◌}
-use Prim.Native.Nat.{ℕ, zero, suc, ◌+◌, ◌≤◌, ◌<◌}
+use Prim.Native.Nat.{ℕ, zero, suc, ◌+◌, ◌*◌, ◌≤◌, ◌<◌}
 use native.Mathlib.Omega.{arith}
 use lib.Dec.{eqb}
 use lib.ListN.{length, get_or, drop, length-append}
+use Rattle.std.specs.List.{sum_by}
+use Rattle.std.proofs.lemmas.List.Sums.{sum_by-cons}
 use Rattle.rows.proofs.Settled.{settled, settled_with}
 use Rattle.rows.specs.Settled.{Settled}
 use Rattle.lent.proofs.Laws.{drop-next}
@@ -54,6 +56,19 @@ length-substitute b = go (is_special b)
     go : (t : Bool) → length (cond t (94 ∷ (b + 64) ∷ []) (b ∷ [])) ≤ 2
     go true = omega arith
     go false = omega arith
+
+-- byte by byte
+pub substituted_sum : (m : List ℕ) → length (substituted m) ≡ sum_by (λ b. length (substitute b)) m
+unfolding substituted
+substituted_sum [] = refl
+substituted_sum (b ∷ rest) =
+    length-append (substitute b) (substituted rest) ∙ ap (λ (n : ℕ). length (substitute b) + n) (substituted_sum rest)
+    ∙ sym (sum_by-cons (λ x. length (substitute x)) b rest)
+
+pub length-substituted : (m : List ℕ) → length (substituted m) ≤ 2 * length m
+unfolding substituted
+length-substituted [] = omega arith
+length-substituted (b ∷ rest) = omega (arith, length-append (substitute b) (substituted rest), length-substitute b, length-substituted rest)
 
 -- at most two bytes for a byte of a message
 pub taken_two : (xs : List ℕ) (i : ℕ) {r : ℕ} → r ≡ length (substitute (get_or xs i 0)) → r ≤ 2

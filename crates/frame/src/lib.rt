@@ -17,13 +17,7 @@ pub const SUBSTITUTION: u8 = 94;
 pub fn substituted_length(message: &[u8]) -> usize
     ensures { Measures message.now result }
 {
-    let mut n: usize = 0;
-    let mut i = 0;
-    while i < message.len() {
-        n += byte_length(message[i]);
-        i += 1;
-    }
-    n
+    message.iter().map(|byte| byte_length(*byte)).sum()
 }
 
 // Lays the message, substituted, over the room's places from `at` on, as much of it as there is
@@ -32,13 +26,11 @@ pub fn substitute_at(message: &[u8], room: &mut [u8], at: usize)
     ensures { Substitutes message.now at room.old room.new }
 {
     let mut to = at;
-    let mut i = 0;
-    while i < message.len() {
+    for byte in message {
         if room.len() <= to {
             return;
         }
-        to += substitute_one(message[i], room, to);
-        i += 1;
+        to += substitute_one(*byte, room, to);
     }
 }
 
@@ -49,12 +41,10 @@ pub fn restore(bytes: &[u8], room: &mut [u8]) -> usize
 {
     let mut after = false;
     let mut n = 0;
-    let mut i = 0;
-    while i < bytes.len() {
-        let turned = restore_one(after, bytes[i], room, n);
+    for byte in bytes {
+        let turned = restore_one(after, *byte, room, n);
         n += turned.more;
         after = turned.after;
-        i += 1;
     }
     n
 }

@@ -1,12 +1,12 @@
 use mathlib.Core.Bool.{Bool}
-use mathlib.Core.Path.{◌≡◌, refl, sym, ap, ◌∙◌}
+use mathlib.Core.Path.{◌≡◌, sym, ap, ◌∙◌}
 use mathlib.Core.List.{List, []}
 use Prim.Native.Nat.{◌+◌, ℕ, ◌<◌}
 use native.Mathlib.Omega.{arith}
 use native.Mathlib.Nat.{add-zero}
 use lib.ListN.{length, drop, get_or, length-append, drop_of_length-le}
 use Rattle.lent.specs.Lent.{over_at}
-use Rattle.lent.proofs.Laws.{length-over_at, over_at_none, over_at_append, over_at_zero}
+use Rattle.lent.proofs.Laws.{over_at_none, over_at_append, over_at_zero}
 use Rattle.frame.specs.Frame.{restored, restore, opens}
 use Rattle.frame.proofs.Laws.{restored_next, given_one}
 use Rattle.frame.proofs.restore.Goals as goal
@@ -25,30 +25,27 @@ counted xs after opened n i r w h o e inv =
     ∙ ap (λ (t : Bool). length (restore after (get_or xs i 0)) + length (restored t (drop (i + 1) xs))) (sym o) in
     omega arith
 
-pub loop-i-init : goal.loop-i-init
-loop-i-init c = (omega arith, omega arith, refl, omega arith, over_at_zero _ _)
+pub loop-byte-init : goal.loop-byte-init
+loop-byte-init c = (omega arith, omega arith, over_at_zero _ _)
 
 pub overflow_add-n : goal.overflow_add-n
 overflow_add-n c =
     let args = c.args in
-    let loop = c.loop-i in
-    record { fits = omega (arith, given_one loop.after args.bytes.now loop.i c.restore_one-turned.ensures.0) }
+    let loop = c.loop-byte in
+    record { fits = omega (arith, given_one loop.after args.bytes.now loop.byte-index c.restore_one-turned.ensures.0) }
 
-pub loop-i-preserved : goal.loop-i-preserved
-loop-i-preserved c =
-    let args = c.args in
-    let loop = c.loop-i in
-    let loop-test = c.loop-i-test in
+pub loop-byte-preserved : goal.loop-byte-preserved
+loop-byte-preserved c =
+    let loop = c.loop-byte in
+    let here = c.loop-byte-test.true in
     let turned = c.restore_one-turned.ensures in (
-      omega arith,
-      omega (arith, given_one loop.after args.bytes.now loop.i turned.0),
-      ap length turned.2 ∙ length-over_at _ _ _ ∙ loop.invariant.2,
-      counted _ _ _ _ _ _ _ loop-test.true turned.1 turned.0 loop.invariant.3,
-      step _ _ _ _ _ _ _ _ _ loop-test.true turned.1 (turned.0, turned.2) loop.invariant.4,
+      omega (arith, given_one loop.after c.args.bytes.now loop.byte-index turned.0),
+      counted _ _ _ _ _ _ _ here turned.1 turned.0 loop.invariant.1,
+      step _ _ _ _ _ _ _ _ _ here turned.1 (turned.0, turned.2) loop.invariant.2,
     )
 
 pub returns : goal.returns
 unfolding restored
 returns c =
-    let end : drop c.loop-i.i c.args.bytes.now ≡ [] = drop_of_length-le _ c.loop-i-test.false in
-    (sym (add-zero _) ∙ (rw end at c.loop-i.invariant.3), sym (over_at_none c.loop-i.n c.loop-i.room) ∙ (rw end at c.loop-i.invariant.4))
+    let end : drop c.loop-byte.byte-index c.args.bytes.now ≡ [] = drop_of_length-le _ c.loop-byte-test.false in
+    (sym (add-zero _) ∙ (rw end at c.loop-byte.invariant.1), sym (over_at_none c.loop-byte.n c.loop-byte.room) ∙ (rw end at c.loop-byte.invariant.2))
