@@ -2,7 +2,7 @@
 // past the buffer's end.
 #![tactic(auto)]
 
-ghost use Rattle.std.specs.Prelude.{◌≡◌, cond, ◌+◌, ◌≤◌, ◌<◌, leb, length};
+ghost use Rattle.std.specs.Prelude.{◌≡◌, cond, leb};
 ghost use Rattle.lent.specs.Lent.{Lays, Moves};
 
 // Lays the bytes over the room's places from `at` on, as many of them as there is room for. Every
