@@ -12,11 +12,14 @@ use borrow.Author.Tests.{lt-ltb, le-ltb}
 use lib.Dec.{ltb}
 use lib.ListN.{length, get_or, take, drop, length-take}
 use lib.Seq.{get_or-drop, take_all, drop-drop}
+use Rattle.std.specs.Option.{MatchOption, unwrap_or}
+use Rattle.std.specs.declared.option.Option.{Option}
+use Rattle.std.specs.declared.option.Option.TheVariants.{None, Some}
 use Rattle.values.specs.Values.{Bytes, size_of, natural}
 use Rattle.values.proofs.Bytes.{bytes_drop}
 use Rattle.values.proofs.Sized.{size-le}
 use Rattle.setting.specs.declared.Head.{Head}
-use Rattle.setting.specs.Setting.{head, length_of, lengths_to, head_of, tail_of, rows_in, heads, tails, is_above, is_allowed, falls, unfit, not_below, some_of}
+use Rattle.setting.specs.Setting.{head, length_of, lengths_to, head_of, tail_of, rows_in, heads, tails, is_above, falls, some_of}
 use Rattle.first.specs.First.{first_place}
 use Rattle.first.proofs.Laws.{first_at, first-none}
 use Rattle.setting.proofs.Laws.{heads_at, tails-at}
@@ -70,22 +73,11 @@ tail_none rows k h = rw (le-ltb k (length rows / 8) h)
 
 -- ---- the searches
 
--- what the comparison of a row with the one before tells of it
-pub fall_told : (rows : List ℕ) (k : ℕ) {a b : Head} {t : Bool} → 1 ≤ k → a ≡ heads rows (k - 1) → b ≡ heads rows k → t ≡ is_above a b
-    → falls (heads rows) k ≡ not t
+-- a row that has one before it
+pub falls_behind : (at : ℕ → Head) (k : ℕ) → 1 ≤ k → falls at k ≡ not (is_above (at (k - 1)) (at k))
 unfolding falls
-fall_told rows zero l p q e = absurd (omega arith)
-fall_told rows (suc k) l p q e =
-    let back : suc k - 1 ≡ k = omega arith in
-    rw (e, p, q, back)
-
-pub unfit_told : (rows : List ℕ) (k : ℕ) {h : Head} {t : Bool} → h ≡ heads rows k → t ≡ is_allowed h → unfit (heads rows) k ≡ not t
-unfolding unfit
-unfit_told rows k p e = rw (e, p)
-
--- and what that of a row with a head does
-pub below_told : (rows : List ℕ) (h : Head) (k : ℕ) {a : Head} {t : Bool} → a ≡ heads rows k → t ≡ is_above a h → not_below h (heads rows) k ≡ not t
-below_told rows h k p e = rw (e, p)
+falls_behind at zero l = absurd (omega arith)
+falls_behind at (suc k) l = let back : suc k - 1 ≡ k = omega arith in rw back
 
 pub first_falls : (rows : List ℕ) → falls (heads rows) 0 ≡ false
 unfolding falls
@@ -98,6 +90,20 @@ found p rows k h before there = sym (first_at p (length rows / 8) k h before the
 pub none_found : (p : ℕ → Bool) (rows : List ℕ) (k : ℕ) → length rows / 8 ≤ k → ((j : ℕ) → j < k → p j ≡ false) → length rows / 8 ≡ first_place p (rows_in rows)
 unfolding rows_in
 none_found p rows k h before = sym (first-none p (length rows / 8) (λ j l. before j (omega arith)))
+
+-- what a test tells of the rows from one on
+abbrev pub Told : (ℕ → Bool) → ℕ → Bool → ℕ → Type 0
+Told p from t k = from ≤ k → p k ≡ t
+
+-- what `find` answers over the rows from one on, where none before it fits
+pub sought : (p : ℕ → Bool) (rows : List ℕ) (from : ℕ) (r : Option ℕ) → ((j : ℕ) → j < from → p j ≡ false)
+    → MatchOption r ((k : ℕ) → from ≤ k → k < length rows / 8 → Told p from false k)
+    (λ i. (from ≤ i) × (i < length rows / 8) × Told p from true i × ((k : ℕ) → from ≤ k → k < i → Told p from false k))
+    → unwrap_or r (length rows / 8) ≡ first_place p (rows_in rows)
+sought p rows from None before none =
+    none_found p rows (length rows / 8) (omega arith) (λ j l. elim (dec_le from j) [ yes h ↦ none j h l h | no h ↦ before j (omega arith) ])
+sought p rows from (Some i) before at =
+    found p rows i at.1 (λ j l. elim (dec_le from j) [ yes h ↦ at.3 j h l h | no h ↦ before j (omega arith) ]) (at.2 at.0)
 
 -- a row's value is at most 255 elements of 8 bytes
 pub row_most : (rows : List ℕ) (k : ℕ) → Bytes rows → length_of (heads rows k) ≤ 2040

@@ -98,15 +98,9 @@ pub fn first_fall(rows: &[u8]) -> usize
     ensures { FindsFall rows.now result }
 {
     let n = rows.len() / ROW;
-    let mut k = 1;
-    while k < n {
-        if is_above(head_at(rows, k - 1), head_at(rows, k)) {
-            k += 1;
-        } else {
-            return k;
-        }
-    }
-    n
+    (1..n)
+        .find(|&k| !is_above(head_at(rows, k - 1), head_at(rows, k)))
+        .unwrap_or(n)
 }
 
 // Whether b stands above a: by module, then by register.
@@ -125,15 +119,9 @@ pub fn place_of(rows: &[u8], head: Head) -> usize
     ensures { FindsPlace rows.now head result }
 {
     let n = rows.len() / ROW;
-    let mut k = 0;
-    while k < n {
-        if is_above(head_at(rows, k), head) {
-            k += 1;
-        } else {
-            return k;
-        }
-    }
-    n
+    (0..n)
+        .find(|&k| !is_above(head_at(rows, k), head))
+        .unwrap_or(n)
 }
 
 // The first row that is not allowed; how many rows there are where each is.
@@ -141,15 +129,7 @@ pub fn first_unfit(rows: &[u8]) -> usize
     ensures { FindsUnfit rows.now result }
 {
     let n = rows.len() / ROW;
-    let mut k = 0;
-    while k < n {
-        if is_allowed(head_at(rows, k)) {
-            k += 1;
-        } else {
-            return k;
-        }
-    }
-    n
+    (0..n).find(|&k| !is_allowed(head_at(rows, k))).unwrap_or(n)
 }
 
 // Whether module, kind and count are allowed.

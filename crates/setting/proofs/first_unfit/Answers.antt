@@ -1,17 +1,16 @@
-use mathlib.Core.Path.{ap, ◌∙◌}
-use mathlib.Core.Bool.{not}
-use borrow.Author.Count.{below_more}
+use mathlib.Core.Path.{◌∙◌}
+use mathlib.Core.Bool.{true, false}
+use native.Mathlib.Omega.{arith}
+use Rattle.std.proofs.Common.{rules, tests}
+use Rattle.std.proofs.lemmas.Iterator.{first_from_Range}
 use Rattle.setting.specs.Setting.{heads, unfit}
-use Rattle.setting.proofs.Steps.{unfit_told, found, none_found}
+use Rattle.setting.proofs.Steps.{Told, sought}
 use Rattle.setting.proofs.first_unfit.Goals as goal
 
 pub returns : goal.returns
-returns c = none_found (unfit (heads _)) _ _ c.loop-k-test.false c.loop-k.invariant
-
-pub loop-k-preserved : goal.loop-k-preserved
-loop-k-preserved c = below_more _ _ c.loop-k.invariant (unfit_told _ _ c.head_at.ensures c.is_allowed.ensures ∙ ap not c.if-is_allowed.true)
-
-pub returns-else-is_allowed : goal.returns-else-is_allowed
-returns-else-is_allowed c =
-    found (unfit (heads _)) _ _ c.loop-k-test.true c.loop-k.invariant
-    (unfit_told _ _ c.head_at.ensures c.is_allowed.ensures ∙ ap not c.if-is_allowed.false)
+unfolding unfit
+returns c =
+    let p = unfit (heads c.args.rows.now) in
+    c.unwrap_or.ensures
+    ∙ sought p _ 0 _ (λ j l. absurd (omega arith))
+    (first_from_Range _ _ _ _ (Told p 0 true) (Told p 0 false) c.find.ensures.ran (λ k q h l. search (rules, tests)) (λ k q h. (search rules, λ l. search (rules, tests))))
