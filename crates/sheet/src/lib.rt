@@ -108,13 +108,11 @@ fn is_misplaced(rows: &[u8], size: usize) -> bool
 {
     let n = rows.len() / ROW;
     let mut end = 0;
-    let mut k = 0;
-    while k < n {
+    for k in 0..n {
         if setting::tail_at(rows, k) != end {
             return true;
         }
         end += setting::measure(setting::head_at(rows, k));
-        k += 1;
     }
     size != end
 }
