@@ -51,14 +51,12 @@ fn is_misstated(rows: &[u8], size: usize) -> bool
         return true;
     }
     let mut end = 0;
-    let mut k = 0;
-    while k < n {
+    for k in 0..n {
         let length = setting::measure(setting::head_at(rows, k));
         if setting::tail_at(rows, k) != length {
             return true;
         }
         end += length;
-        k += 1;
     }
     size != end
 }
@@ -98,12 +96,10 @@ fn lay_records(rows: &[u8], room: &mut [u8])
 {
     let n = rows.len() / ROW;
     let mut offset = 0;
-    let mut k = 0;
-    while k < n {
+    for k in 0..n {
         let head = setting::head_at(rows, k);
         lay_record(head, offset, room, HEADER + ROW * k);
         offset += setting::measure(head);
-        k += 1;
     }
 }
 
@@ -151,11 +147,9 @@ fn lay_offsets(n: usize, room: &mut [u8])
 {
     let end = HEADER + ROW * n;
     let mut offset = 0;
-    let mut k = 0;
-    while k < n {
+    for k in 0..n {
         let head = setting::head_at(&room[HEADER..end], k);
         lay_record(head, offset, room, HEADER + ROW * k);
         offset += setting::measure(head);
-        k += 1;
     }
 }

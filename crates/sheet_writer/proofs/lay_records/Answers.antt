@@ -8,11 +8,11 @@ use Rattle.sheet_writer.proofs.Steps.{laid_start, laid_on, laid_all}
 use Rattle.sheet_writer.proofs.lay_records.Goals as goal
 
 pub loop-k-init : goal.loop-k-init
-loop-k-init c = (omega arith, no_lengths _, omega arith, refl, laid_start _ _)
+loop-k-init c = (no_lengths _, omega arith, refl, laid_start _ _)
 
 pub overflow_add-offset : goal.overflow_add-offset
 overflow_add-offset c =
-    let room = end_room _ _ _ _ (λ i. (c.type_inv.rows i).fits) c.loop-k.invariant.2 c.head_at-head.ensures c.measure-offset.ensures in
+    let room = end_room _ _ _ _ (λ i. (c.type_inv.rows i).fits) c.loop-k.invariant.1 c.head_at-head.ensures c.measure-offset.ensures in
     record { fits = omega (arith, room, c.requires, c.loop-k-test.true) }
 
 pub loop-k-preserved : goal.loop-k-preserved
@@ -20,12 +20,11 @@ loop-k-preserved c =
     let inv = c.loop-k.invariant in
     let head = c.head_at-head in
     let laid = c.lay_record in (
-      omega arith,
-      end_on _ _ _ _ inv.1 head.ensures c.measure-offset.ensures,
-      end_room _ _ _ _ (λ i. (c.type_inv.rows i).fits) inv.2 head.ensures c.measure-offset.ensures,
-      ap length laid.ensures ∙ (length-over_at _ _ _ ∙ inv.3),
-      laid_on _ _ _ _ _ _ _ c.loop-k-test.true inv.1 head.ensures inv.4 laid.ensures,
+      end_on _ _ _ _ inv.0 head.ensures c.measure-offset.ensures,
+      end_room _ _ _ _ (λ i. (c.type_inv.rows i).fits) inv.1 head.ensures c.measure-offset.ensures,
+      ap length laid.ensures ∙ (length-over_at _ _ _ ∙ inv.2),
+      laid_on _ _ _ _ _ _ _ c.loop-k-test.true inv.0 head.ensures inv.3 laid.ensures,
     )
 
 pub returns : goal.returns
-returns c = laid_all _ _ _ _ _ c.loop-k-test.false c.loop-k.invariant.4
+returns c = laid_all _ _ _ _ _ c.loop-k-test.false c.loop-k.invariant.3

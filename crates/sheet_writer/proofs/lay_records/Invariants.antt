@@ -7,8 +7,5 @@ use Rattle.sheet_writer.specs.Writer.{laid_from}
 use Rattle.sheet_writer.proofs.lay_records.Given as goal
 
 abbrev pub invariant-loop-k : goal.invariant-loop-k
-invariant-loop-k l = (l.k ≤ l.n) × (l.offset ≡ lengths_to (heads l.rows) l.k) × (l.offset ≤ 2040 * l.k) × (length l.room ≡ length l.initial.room)
+invariant-loop-k l = (l.offset ≡ lengths_to (heads l.rows) l.k) × (l.offset ≤ 2040 * l.k) × (length l.room ≡ length l.initial.room)
     × (over_at (12 + 8 * l.k) (laid_from (heads l.rows) l.k (l.n - l.k)) l.room ≡ over_at 12 (laid_from (heads l.rows) 0 (rows_in l.rows)) l.initial.room)
-
-abbrev pub decreases-loop-k : goal.decreases-loop-k
-decreases-loop-k l = l.n - l.k
