@@ -1,14 +1,11 @@
-use mathlib.Core.Path.{refl, ap, ◌∙◌}
 use native.Mathlib.Omega.{arith}
-use lib.ListN.{length}
-use Rattle.lent.proofs.Laws.{length-over_at}
 use Rattle.setting.proofs.Lists.{no_lengths}
 use Rattle.setting.proofs.Steps.{end_on, end_room}
 use Rattle.sheet_writer.proofs.Steps.{laid_start, laid_on, laid_all}
 use Rattle.sheet_writer.proofs.lay_records.Goals as goal
 
 pub loop-k-init : goal.loop-k-init
-loop-k-init c = (no_lengths _, omega arith, refl, laid_start _ _)
+loop-k-init c = (no_lengths _, omega arith, laid_start _ _)
 
 pub overflow_add-offset : goal.overflow_add-offset
 overflow_add-offset c =
@@ -22,9 +19,8 @@ loop-k-preserved c =
     let laid = c.lay_record in (
       end_on _ _ _ _ inv.0 head.ensures c.measure-offset.ensures,
       end_room _ _ _ _ (λ i. (c.type_inv.rows i).fits) inv.1 head.ensures c.measure-offset.ensures,
-      ap length laid.ensures ∙ (length-over_at _ _ _ ∙ inv.2),
-      laid_on _ _ _ _ _ _ _ c.loop-k-test.true inv.0 head.ensures inv.3 laid.ensures,
+      laid_on _ _ _ _ _ _ _ c.loop-k-test.true inv.0 head.ensures inv.2 laid.ensures,
     )
 
 pub returns : goal.returns
-returns c = laid_all _ _ _ _ _ c.loop-k-test.false c.loop-k.invariant.3
+returns c = laid_all _ _ _ _ _ c.loop-k-test.false c.loop-k.invariant.2
