@@ -22,24 +22,6 @@ use Rattle.numerals.specs.Numerals.{numeral_of, under, limited_to}
 use Rattle.numerals.proofs.Digits.{worth_grows}
 use Rattle.numerals.proofs.Laws.{numeral_is, numeral_huge, numeral_nothing}
 
--- ---- each byte is a digit: what is left decides for the whole
-
-pub digits_on : (base : ℕ) (figures : List ℕ) (i d : ℕ) → i < length figures → d ≡ digit_of (get_or figures i 0) → d < base
-    → are_digits base (drop i figures) ≡ are_digits base figures → are_digits base (drop (i + 1) figures) ≡ are_digits base figures
-unfolding are_digits
-digits_on base figures i d h e l inv =
-    rw (add-one i) (rw (drop-cons figures i 0 h, ← e, lt-ltb d base l) at inv)
-
-pub digits_not : (base : ℕ) (figures : List ℕ) (i d : ℕ) → i < length figures → d ≡ digit_of (get_or figures i 0) → base ≤ d
-    → are_digits base (drop i figures) ≡ are_digits base figures → false ≡ are_digits base figures
-unfolding are_digits
-digits_not base figures i d h e l inv = rw (drop-cons figures i 0 h, ← e, le-ltb d base l) at inv
-
-pub digits_all : (base : ℕ) (figures : List ℕ) (i : ℕ) → length figures ≤ i → are_digits base (drop i figures) ≡ are_digits base figures
-    → true ≡ are_digits base figures
-unfolding are_digits
-digits_all base figures i h inv = rw (drop_of_length-le figures h) at inv
-
 -- ---- what digits are worth: what is left goes on from what was read
 
 pub worth_on : (base : ℕ) (figures : List ℕ) (n i d : ℕ) → i < length figures → d ≡ digit_of (get_or figures i 0)

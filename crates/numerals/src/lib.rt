@@ -157,14 +157,7 @@ fn digit(byte: u8) -> u64
 fn are_digits(figures: &[u8], base: u64) -> bool
     ensures { result ≡ are_digits base figures.now }
 {
-    let mut i = 0;
-    while i < figures.len() {
-        if base <= digit(figures[i]) {
-            return false;
-        }
-        i += 1;
-    }
-    true
+    figures.iter().all(|figure| digit(*figure) < base)
 }
 
 // What the digits of a number are worth.
@@ -183,14 +176,12 @@ fn worth_of(figures: &[u8], base: u64) -> Amount
     ensures { result ≡ amount_as (worth base 0 figures.now) }
 {
     let mut n: u64 = 0;
-    let mut i = 0;
-    while i < figures.len() {
-        let d = digit(figures[i]);
+    for figure in figures {
+        let d = digit(*figure);
         if (18446744073709551615 - d) / base < n {
             return Amount::Huge;
         }
         n = n * base + d;
-        i += 1;
     }
     Amount::Is(n)
 }

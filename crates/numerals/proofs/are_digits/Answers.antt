@@ -1,16 +1,11 @@
 use mathlib.Core.Path.{refl}
-use native.Mathlib.Omega.{arith}
-use Rattle.numerals.proofs.Steps.{digits_on, digits_not, digits_all}
+use borrow.Author.Rules.{rules}
+use lib.Dec.{ltb}
+use Rattle.std.proofs.lemmas.List.Recursion.{and_is}
+use Rattle.numerals.specs.Numerals.{digit_of, are_digits}
 use Rattle.numerals.proofs.are_digits.Goals as goal
 
-pub loop-i-init : goal.loop-i-init
-loop-i-init c = (omega arith, refl)
-
-pub returns-then-base-digit : goal.returns-then-base-digit
-returns-then-base-digit c = digits_not _ _ _ _ c.loop-i-test.true c.digit.ensures.0 c.if-base-digit.true c.loop-i.invariant.1
-
-pub loop-i-preserved : goal.loop-i-preserved
-loop-i-preserved c = (omega arith, digits_on _ _ _ _ c.loop-i-test.true c.digit.ensures.0 c.if-base-digit.false c.loop-i.invariant.1)
-
 pub returns : goal.returns
-returns c = digits_all _ _ _ c.loop-i-test.false c.loop-i.invariant.1
+unfolding are_digits
+returns c =
+    and_is (are_digits c.args.base) (λ b. ltb (digit_of b) c.args.base) refl (λ _ _. refl) c.args.figures.now 0 c.all.result (search rules) (search rules)
