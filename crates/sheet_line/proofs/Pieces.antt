@@ -12,7 +12,7 @@ use native.Mathlib.Omega.{arith}
 use borrow.Author.Tests.{le-leb, lt-leb}
 use lib.Dec.{leb, leb→le}
 use lib.ListN.{length, get_or, get_or-eq_default}
-use Rattle.lent.proofs.Laws.{over_at_none, over_at_zero, length-over_at}
+use Rattle.lent.proofs.Laws.{over_at_none, over_at_zero}
 use Rattle.text.specs.Text.{ascii, decimal, Puts}
 use Rattle.text.proofs.Laws.{puts_then}
 use Rattle.values.specs.Values.{size_of, is_signed, Bytes, Holds, read_value}
@@ -28,10 +28,6 @@ use Rattle.values.proofs.Sized.{half_le, kind_positive, size-le}
 use Rattle.numerals.specs.Numerals.{spelt}
 use Rattle.setting.specs.declared.Head.{Head}
 use Rattle.sheet_line.specs.Line.{kind_names, name_of, element_text, elements_from, line_of, Writes}
-
--- no room grows or shrinks
-pub puts_length : (x : List ℕ) (at r : ℕ) (room room' : List ℕ) → Puts x at room r room' → length room' ≡ length room
-puts_length x at r room room' p = ap length p.1 ∙ length-over_at at x room
 
 -- the same piece by another name
 pub puts_as : (x y : List ℕ) (at r : ℕ) (room room' : List ℕ) → y ≡ x → Puts x at room r room' → Puts y at room r room'

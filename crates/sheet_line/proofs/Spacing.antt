@@ -1,24 +1,20 @@
 -- The words of a line, byte by byte: what the walks along it need.
 -- Assumes nothing.
 use mathlib.Core.Path.{◌≡◌, refl, sym, ap, ap₂, ◌∙◌}
-use mathlib.Core.Bool.{Bool, true, false, ◌&&◌}
-use mathlib.Core.List.{List, [], ◌∷◌, ◌++◌, append_assoc, append-nil}
+use mathlib.Core.Bool.{Bool, true, false, cond, not, ◌&&◌}
+use mathlib.Core.List.{List, [], ◌∷◌}
 use mathlib.Core.Logic.{◌≢◌}
-use Prim.Native.Nat.{ℕ, suc, ◌+◌, ◌-◌, ◌≤◌, ◌<◌}
-use native.Mathlib.Nat.{add-zero, not-suc-le-zero}
-use native.Mathlib.Numerals.{add-one}
+use Prim.Native.Nat.{ℕ, zero, suc, ◌+◌, ◌-◌, ◌≤◌, ◌<◌, suc-le-suc}
+use native.Mathlib.Nat.{add-zero, not-suc-le-zero, le_of_eq, le_of_suc-le-suc}
 use native.Mathlib.Omega.{arith}
 use borrow.Author.Tests.{eq-eqb, ne_eqb}
 use lib.Dec.{eqb}
-use lib.ListN.{length, get_or, take, drop, length-drop, drop_of_length-le}
-use lib.Seq.{take-suc, get_or-drop}
-use Rattle.lent.proofs.Laws.{drop-next}
+use lib.ListN.{length, get_or, take, drop, length-drop}
+use lib.Pointwise.{pointwise}
+use lib.Seq.{get_or-drop, drop-drop, take_all}
+use Rattle.std.specs.List.{filter, slice_split, onto_first}
 use Rattle.rows.proofs.Laws.{clash}
-use Rattle.sheet_line.specs.Words.{plain, is_blank, parted, with_word, onto, words_in, same}
-
--- one byte more is taken
-taken_on : (line rest : List ℕ) (i : ℕ) → i < length line → take (i + 1) line ++ rest ≡ take i line ++ (get_or line i 0 ∷ rest)
-taken_on line rest i h = rw (add-one i, take-suc line i 0 h) (append_assoc (take i line) (get_or line i 0 ∷ []) rest)
+use Rattle.sheet_line.specs.Words.{plain, is_blank, Parted, parted, with_word, onto, words_in, same}
 
 -- ---- a remark
 
@@ -34,29 +30,15 @@ plain_cut : (b : ℕ) (rest : List ℕ) → b ≡ 35 → plain (b ∷ rest) ≡ 
 unfolding plain
 plain_cut b rest e = rw (eq-eqb b 35 e)
 
-pub plain_starts : (text : List ℕ) → take 0 text ++ plain (drop 0 text) ≡ plain text
-plain_starts text = refl
-
-pub plain_on : (text : List ℕ) (i : ℕ) → i < length text → get_or text i 0 ≢ 35 → take i text ++ plain (drop i text) ≡ plain text
-    → take (i + 1) text ++ plain (drop (i + 1) text) ≡ plain text
-plain_on text i h n so =
-    let here : plain (drop i text) ≡ get_or text i 0 ∷ plain (drop (i + 1) text) =
-    ap plain (drop-next text i h) ∙ plain_kept (get_or text i 0) (drop (i + 1) text) n in
-    taken_on text (plain (drop (i + 1) text)) i h ∙ (ap (λ (l : List ℕ). take i text ++ l) (sym here) ∙ so)
-
-nothing_behind : (text rest : List ℕ) (i : ℕ) → rest ≡ [] → take i text ++ rest ≡ plain text → take i text ≡ plain text
-nothing_behind text rest i e so = sym (append-nil (take i text)) ∙ (ap (λ (l : List ℕ). take i text ++ l) (sym e) ∙ so)
-
-pub plain-ends : (text : List ℕ) (i : ℕ) → i < length text → get_or text i 0 ≡ 35 → take i text ++ plain (drop i text) ≡ plain text
-    → (i ≤ length text) × (take i text ≡ plain text)
-plain-ends text i h e so = (
-  omega arith,
-  nothing_behind text (plain (drop i text)) i (ap plain (drop-next text i h) ∙ plain_cut (get_or text i 0) (drop (i + 1) text) e) so,
-)
-
-pub plain_all : (text : List ℕ) (i : ℕ) → i ≤ length text → length text ≤ i → take i text ++ plain (drop i text) ≡ plain text
-    → (i ≤ length text) × (take i text ≡ plain text)
-plain_all text i l h so = (l, nothing_behind text (plain (drop i text)) i (ap plain (drop_of_length-le text {i = i} h) ∙ plain_none) so)
+-- where the first `#` stands, or the end where there is none
+pub plain_ends : (text : List ℕ) (i : ℕ) → i ≤ length text → ((k : ℕ) → k < i → get_or text k 0 ≢ 35) → (i < length text → get_or text i 0 ≡ 35)
+    → take i text ≡ plain text
+plain_ends [] zero l before there = sym plain_none
+plain_ends [] (suc i) l before there = absurd (not-suc-le-zero l)
+plain_ends (b ∷ rest) zero l before there = sym (plain_cut b rest (there (omega arith)))
+plain_ends (b ∷ rest) (suc i) l before there =
+    ap (λ (xs : List ℕ). b ∷ xs) (plain_ends rest i (le_of_suc-le-suc l) (λ k h. before (suc k) (suc-le-suc h)) (λ h. there (suc-le-suc h)))
+    ∙ sym (plain_kept b rest (before 0 (omega arith)))
 
 -- ---- a blank, and what is none
 
@@ -72,9 +54,9 @@ pub blank_last : (b : ℕ) → b ≢ 32 → b ≢ 9 → eqb b 13 ≡ is_blank b
 unfolding is_blank
 blank_last b n m = rw (ne_eqb b 32 n, ne_eqb b 9 m)
 
-no_words : words_in [] ≡ []
+end_of_all : ([] ≡ (parted []).word) × (words_in [] ≡ (parted []).behind)
 unfolding words_in parted with_word
-no_words = refl
+end_of_all = (refl, refl)
 
 blank_before : (b : ℕ) (rest : List ℕ) → is_blank b ≡ true → words_in (b ∷ rest) ≡ words_in rest
 unfolding words_in parted onto with_word
@@ -88,61 +70,51 @@ goes_on : (b : ℕ) (rest : List ℕ) → is_blank b ≡ false → ((parted (b �
 unfolding parted onto
 goes_on b rest e = rw e (refl, refl)
 
--- ---- to where a word starts
+-- ---- to where a word starts: the first byte of the rest that is no blank
 
-pub start_on : (text : List ℕ) (i : ℕ) {words : List (List ℕ)} {t : Bool} → i < length text → t ≡ is_blank (get_or text i 0) → t ≡ true → words_in (drop i text) ≡ words
-    → words_in (drop (i + 1) text) ≡ words
-start_on text i h told e so = sym (ap words_in (drop-next text i h) ∙ blank_before (get_or text i 0) (drop (i + 1) text) (sym told ∙ e)) ∙ so
+start_in : (rest : List ℕ) (j : ℕ) → j ≤ length rest → ((k : ℕ) → k < j → is_blank (get_or rest k 0) ≡ true) → words_in (drop j rest) ≡ words_in rest
+start_in rest zero l blank = refl
+start_in [] (suc j) l blank = absurd (not-suc-le-zero l)
+start_in (b ∷ rest) (suc j) l blank =
+    start_in rest j (le_of_suc-le-suc l) (λ k h. blank (suc k) (suc-le-suc h)) ∙ sym (blank_before b rest (blank 0 (omega arith)))
 
--- ---- to where it ends
+-- ---- to where it ends: the first blank of the rest
 
-abbrev pub WordTo : List ℕ → ℕ → ℕ → Type 0
-WordTo text at i =
-    (take (i - at) (drop at text) ++ (parted (drop i text)).word ≡ (parted (drop at text)).word) × ((parted (drop i text)).behind ≡ (parted (drop at text)).behind)
+end_in : (rest : List ℕ) (j : ℕ) → j ≤ length rest → ((k : ℕ) → k < j → is_blank (get_or rest k 0) ≡ false) → (j < length rest → is_blank (get_or rest j 0) ≡ true)
+    → (take j rest ≡ (parted rest).word) × (words_in (drop j rest) ≡ (parted rest).behind)
+end_in [] zero l before there = end_of_all
+end_in [] (suc j) l before there = absurd (not-suc-le-zero l)
+end_in (b ∷ rest) zero l before there = let blank = ends_at_blank b rest (there (omega arith)) in (sym blank.0, blank.1)
+end_in (b ∷ rest) (suc j) l before there =
+    let on = goes_on b rest (before 0 (omega arith)) in
+    let more = end_in rest j (le_of_suc-le-suc l) (λ k h. before (suc k) (suc-le-suc h)) (λ h. there (suc-le-suc h)) in
+    (ap (λ (xs : List ℕ). b ∷ xs) more.0 ∙ sym on.0, more.1 ∙ sym on.1)
 
-pub word_starts : (text : List ℕ) (at : ℕ) → WordTo text at at
-word_starts text at = let none : at - at ≡ 0 = omega arith in rw none (refl, refl)
-
-pub word_on : (text : List ℕ) (at i : ℕ) {t : Bool} → at ≤ i → i < length text → t ≡ is_blank (get_or text i 0) → t ≡ false → WordTo text at i → WordTo text at (i + 1)
-word_on text at i l h told e so =
-    let on : ((parted (get_or text i 0 ∷ drop (i + 1) text)).word ≡ get_or text i 0 ∷ (parted (drop (i + 1) text)).word)
-    × ((parted (get_or text i 0 ∷ drop (i + 1) text)).behind ≡ (parted (drop (i + 1) text)).behind) =
-    goes_on (get_or text i 0) (drop (i + 1) text) (sym told ∙ e) in
-    let here : drop i text ≡ get_or text i 0 ∷ drop (i + 1) text = drop-next text i h in
-    let more : i + 1 - at ≡ i - at + 1 = omega arith in
-    let back : at + (i - at) ≡ i = omega arith in
-    let byte : get_or (drop at text) (i - at) 0 ≡ get_or text i 0 = get_or-drop at text (i - at) 0 ∙ ap (λ (k : ℕ). get_or text k 0) back in
-    let under : i - at < length (drop at text) = rw (length-drop at text) (omega arith) in (
-      ap (λ (k : ℕ). take k (drop at text) ++ (parted (drop (i + 1) text)).word) more
-          ∙ (taken_on (drop at text) (parted (drop (i + 1) text)).word (i - at) under
-          ∙ (ap (λ (b : ℕ). take (i - at) (drop at text) ++ (b ∷ (parted (drop (i + 1) text)).word)) byte
-          ∙ (ap (λ (l : List ℕ). take (i - at) (drop at text) ++ l) (sym (ap (λ (l : List ℕ). (parted l).word) here ∙ on.0)) ∙ so.0))),
-      sym (ap (λ (l : List ℕ). (parted l).behind) here ∙ on.1) ∙ so.1,
-    )
-
--- what the walk promises where it ends
+-- what is promised of where it ends
 abbrev pub EndsAt : List ℕ → ℕ → ℕ → Type 0
 EndsAt text at i = (take (i - at) (drop at text) ≡ (parted (drop at text)).word) × (words_in (drop i text) ≡ (parted (drop at text)).behind)
 
-ends_at : (text : List ℕ) (at i : ℕ) → (parted (drop i text)).word ≡ [] → words_in (drop i text) ≡ (parted (drop i text)).behind → WordTo text at i → EndsAt text at i
-ends_at text at i none all so = (
-  sym (append-nil (take (i - at) (drop at text))) ∙ (ap (λ (l : List ℕ). take (i - at) (drop at text) ++ l) (sym none) ∙ so.0),
-  all ∙ so.1,
-)
+-- so many bytes on in what is lent of a text from a place on
+module _ (text : List ℕ) (at j : ℕ) (within : j ≤ length (take (length text - at) (drop at text))) where
+  abbrev rest : List ℕ
+  rest = take (length text - at) (drop at text)
 
-pub word_ends : (text : List ℕ) (at i : ℕ) {t : Bool} → i < length text → t ≡ is_blank (get_or text i 0) → t ≡ true → WordTo text at i → EndsAt text at i
-word_ends text at i h told e so =
-    let here : drop i text ≡ get_or text i 0 ∷ drop (i + 1) text = drop-next text i h in
-    let blank = ends_at_blank (get_or text i 0) (drop (i + 1) text) (sym told ∙ e) in
-    ends_at text at i (ap (λ (l : List ℕ). (parted l).word) here ∙ blank.0)
-    (ap words_in here ∙ (blank.1 ∙ ap (λ (l : List ℕ). (parted l).behind) (sym here))) so
+  lent_lem : rest ≡ drop at text
+  lent_lem = take_all (length text - at) (drop at text) (le_of_eq (length-drop at text))
 
-at-end : (line : List ℕ) → line ≡ [] → ((parted line).word ≡ []) × (words_in line ≡ (parted line).behind)
-unfolding words_in parted with_word
-at-end line e = rw e (refl, refl)
+  behind_lem : drop (at + j) text ≡ drop j rest
+  behind_lem = sym (drop-drop j at text) ∙ ap (λ (l : List ℕ). drop j l) (sym lent_lem)
 
-pub word_ends_all : (text : List ℕ) (at i : ℕ) → length text ≤ i → WordTo text at i → EndsAt text at i
-word_ends_all text at i h so = let end = at-end (drop i text) (drop_of_length-le text {i = i} h) in ends_at text at i end.0 end.1 so
+  pub word_starts : ((k : ℕ) → k < j → is_blank (get_or rest k 0) ≡ true) → words_in (drop (at + j) text) ≡ words_in (drop at text)
+  word_starts blank = ap words_in behind_lem ∙ (start_in rest j within blank ∙ ap words_in lent_lem)
+
+  pub word_ends : ((k : ℕ) → k < j → is_blank (get_or rest k 0) ≡ false) → (j < length rest → is_blank (get_or rest j 0) ≡ true) → EndsAt text at (at + j)
+  word_ends before there =
+      let end = end_in rest j within before there in
+      let on : at + j - at ≡ j = omega arith in (
+        ap₂ (λ (n : ℕ) (l : List ℕ). take n l) on (sym lent_lem) ∙ (end.0 ∙ ap (λ (l : List ℕ). (parted l).word) lent_lem),
+        ap words_in behind_lem ∙ (end.1 ∙ ap (λ (l : List ℕ). (parted l).behind) lent_lem),
+      )
 
 -- ---- the next word
 
@@ -176,40 +148,62 @@ module _ (text : List ℕ) (at from to : ℕ) (within : to ≤ length text) (sam
   pub next-some : from < to → 0 < length (words_in (drop at text))
   next-some l = rw (← same_words) (all_parts.3 (rw (length-drop from text) (omega arith)))
 
--- ---- the same bytes
+-- ---- the words are the parts between blanks, but for the empty ones
 
-pub other_length : (xs ys : List ℕ) → length xs ≢ length ys → false ≡ same xs ys
-unfolding same
-other_length [] [] n = absurd (n refl)
-other_length [] (y ∷ ys) n = refl
-other_length (x ∷ xs) [] n = refl
-other_length (x ∷ xs) (y ∷ ys) n = never (eqb x y) ∙ ap (λ (t : Bool). eqb x y && t) (other_length xs ys (λ e. n (ap suc e)))
+abbrev pub is_word : List ℕ → Bool
+is_word part = not (eqb (length part) 0)
+
+word_kept : (word : List ℕ) (others : List (List ℕ)) {behind : List (List ℕ)} → filter is_word others ≡ behind → filter is_word (word ∷ others) ≡ with_word word behind
+unfolding with_word
+word_kept [] others e = e
+word_kept (b ∷ word) others e = rw (ne_eqb (suc (length word)) 0 (λ z. omega (arith, z))) (ap (λ (l : List (List ℕ)). (b ∷ word) ∷ l) e)
+
+-- the parts are the word that the line begins with, and others
+abbrev CutAs : List (List ℕ) → Parted → Type 0
+CutAs cut p = (others : List (List ℕ)) × (cut ≡ p.word ∷ others) × (filter is_word others ≡ p.behind)
+
+cut_on : (b : ℕ) (t : Bool) (cut : List (List ℕ)) (p : Parted) → CutAs cut p → CutAs (cond t ([] ∷ cut) (onto_first b cut)) (onto t b p)
+unfolding onto
+cut_on b true cut p so = (cut, refl, ap (λ (l : List (List ℕ)). filter is_word l) so.1 ∙ word_kept p.word so.0 so.2)
+cut_on b false cut p so = (so.0, ap (λ (l : List (List ℕ)). onto_first b l) so.1, so.2)
+
+cut_as : (line : List ℕ) → CutAs (slice_split is_blank line) (parted line)
+unfolding parted
+cut_as [] = ([], refl, refl)
+cut_as (b ∷ rest) = cut_on b (is_blank b) (slice_split is_blank rest) (parted rest) (cut_as rest)
+
+pub words_cut : (line : List ℕ) → filter is_word (slice_split is_blank line) ≡ words_in line
+unfolding words_in
+words_cut line =
+    let so = cut_as line in
+    ap (λ (l : List (List ℕ)). filter is_word l) so.1 ∙ word_kept (parted line).word so.0 so.2
+
+-- no more of them than bytes
+
+with_word_short : (word : List ℕ) (behind : List (List ℕ)) → length (with_word word behind) ≤ length word + length behind
+unfolding with_word
+with_word_short [] behind = omega arith
+with_word_short (b ∷ word) behind = omega arith
+
+parted_short : (line : List ℕ) → length (parted line).word + length (parted line).behind ≤ length line
+unfolding parted onto
+parted_short [] = omega arith
+parted_short (b ∷ rest) = go (is_blank b) (parted_short rest)
   where
-    never : (t : Bool) → false ≡ (t && false)
-    never true = refl
-    never false = refl
+    go : (t : Bool) → length (parted rest).word + length (parted rest).behind ≤ length rest
+        → length (onto t b (parted rest)).word + length (onto t b (parted rest)).behind ≤ suc (length rest)
+    go true so = let short = with_word_short (parted rest).word (parted rest).behind in omega (arith, short, so)
+    go false so = omega (arith, so)
 
-same_none : same [] [] ≡ true
+pub words_short : (line : List ℕ) → length (words_in line) ≤ length line
+unfolding words_in
+words_short line = let short = with_word_short (parted line).word (parted line).behind in omega (arith, short, parted_short line)
+
+-- ---- the same bytes: what `==` of the library tells
+
+pub same_told : (xs ys : List ℕ) → pointwise eqb xs ys ≡ same xs ys
 unfolding same
-same_none = refl
-
-same_next : (x y : ℕ) (xs ys : List ℕ) → x ≡ y → same (x ∷ xs) (y ∷ ys) ≡ same xs ys
-unfolding same
-same_next x y xs ys e = rw (eq-eqb x y e)
-
-same_not : (x y : ℕ) (xs ys : List ℕ) → x ≢ y → same (x ∷ xs) (y ∷ ys) ≡ false
-unfolding same
-same_not x y xs ys n = rw (ne_eqb x y n)
-
-module _ (xs ys : List ℕ) (i : ℕ) (long : length xs ≡ length ys) (so : same (drop i xs) (drop i ys) ≡ same xs ys) where
-  here : i < length xs → same (drop i xs) (drop i ys) ≡ same (get_or xs i 0 ∷ drop (i + 1) xs) (get_or ys i 0 ∷ drop (i + 1) ys)
-  here h = ap₂ same (drop-next xs i h) (drop-next ys i (omega arith))
-
-  pub same_on : i < length xs → get_or xs i 0 ≡ get_or ys i 0 → same (drop (i + 1) xs) (drop (i + 1) ys) ≡ same xs ys
-  same_on h e = sym (here h ∙ same_next (get_or xs i 0) (get_or ys i 0) (drop (i + 1) xs) (drop (i + 1) ys) e) ∙ so
-
-  pub same_ends : i < length xs → get_or xs i 0 ≢ get_or ys i 0 → false ≡ same xs ys
-  same_ends h n = sym (here h ∙ same_not (get_or xs i 0) (get_or ys i 0) (drop (i + 1) xs) (drop (i + 1) ys) n) ∙ so
-
-  pub same_all : length xs ≤ i → true ≡ same xs ys
-  same_all h = sym (ap₂ same (drop_of_length-le xs {i = i} h) (drop_of_length-le ys {i = i} (omega arith)) ∙ same_none) ∙ so
+same_told [] [] = refl
+same_told [] (y ∷ ys) = refl
+same_told (x ∷ xs) [] = refl
+same_told (x ∷ xs) (y ∷ ys) = ap (λ (t : Bool). eqb x y && t) (same_told xs ys)

@@ -10,7 +10,7 @@ use native.Mathlib.Nat.{add-zero}
 use native.Mathlib.Omega.{arith}
 use borrow.Author.Tests.{eq-eqb, ne_eqb}
 use lib.Dec.{eqb}
-use lib.ListN.{length, get_or, drop, length-drop}
+use lib.ListN.{length, get_or, drop}
 use lib.Seq.{get_or-drop, drop-drop}
 use Rattle.first.proofs.Laws.{first_at, first-none}
 use Rattle.text.specs.Text.{ascii}
@@ -31,12 +31,6 @@ left_on words k so e = sym (drop-drop 1 k words) ∙ (ap (λ (l : List (List ℕ
 pub word_here : (words : List (List ℕ)) (k : ℕ) {left : List (List ℕ)} {word : List ℕ} → drop k words ≡ left → word ≡ get_or left 0 [] → word ≡ word_at words k
 word_here words k so e =
     e ∙ (ap (λ (l : List (List ℕ)). get_or l 0 []) (sym so) ∙ (get_or-drop k words 0 [] ∙ ap (λ (n : ℕ). get_or words n []) (add-zero k)))
-
-pub word_under : (words : List (List ℕ)) (k : ℕ) {left : List (List ℕ)} → drop k words ≡ left → 0 < length left → k < length words
-word_under words k so h = let some : 0 < length (drop k words) = rw so h in omega (arith, some, length-drop k words)
-
-pub words_all : (words : List (List ℕ)) (k : ℕ) {left : List (List ℕ)} → k ≤ length words → drop k words ≡ left → left ≡ [] → k ≡ length words
-words_all words k l so e = let none : length (drop k words) ≡ 0 = ap length (so ∙ e) in omega (arith, l, none, length-drop k words)
 
 -- ---- a word that is no number
 

@@ -50,7 +50,7 @@ pub(crate) fn read_words(text: &[u8], room: &mut [u8]) -> Line
     if many < 4 {
         return Line::Wrong(Fault::FewWords);
     }
-    let wrong = first_wrong(text);
+    let wrong = first_wrong(text, many);
     if wrong < many {
         return Line::Wrong(Fault::NoNumber(wrong + 1));
     }
@@ -64,38 +64,27 @@ pub(crate) fn read_words(text: &[u8], room: &mut [u8]) -> Line
 fn count_words(text: &[u8]) -> usize
     ensures { (result ≡ length (words_in text.now)) × (result ≤ length text.now) }
 {
-    let mut at = 0;
-    let mut k = 0;
-    loop {
-        let next = words::next(text, at);
-        if next.from == next.to {
-            return k;
-        }
-        at = next.to;
-        k += 1;
-    }
+    text.split(|byte| words::is_blank(*byte))
+        .filter(|word| !word.is_empty())
+        .count()
 }
 
-// The first word, from 0 on, that is no number and should be one; how many words there are where each
-// is.
-fn first_wrong(text: &[u8]) -> usize
+// The first of so many words, from 0 on, that is no number and should be one; `many` where each is.
+fn first_wrong(text: &[u8], many: usize) -> usize
+    requires { many ≡ length (words_in text.now) }
     ensures { (result ≡ no_number_at (words_in text.now)) × (result ≤ length text.now) }
 {
     let mut at = 0;
-    let mut k = 0;
-    loop {
+    for k in 0..many {
         let next = words::next(text, at);
         let from = next.from;
         let to = next.to;
-        if from == to {
-            return k;
-        }
         if is_wrong(&text[from..to], k) {
             return k;
         }
         at = to;
-        k += 1;
     }
+    many
 }
 
 // Whether a word at a place should be a number and is none.
@@ -211,19 +200,17 @@ fn store_values(text: &[u8], at: usize, head: Head, space: &mut [u8]) -> usize
     let many = head.count as usize;
     let size = values::size(head.kind);
     let mut from = at;
-    let mut k = 0;
-    while k < many {
+    for k in 0..many {
         let next = words::next(text, from);
         let start = next.from;
         let end = next.to;
         if store(&text[start..end], head.kind, space, k * size) {
             from = end;
-            k += 1;
         } else {
             return k;
         }
     }
-    k
+    many
 }
 
 // Lays the bytes of a value from a place on, if it fits the kind, and answers whether it does.

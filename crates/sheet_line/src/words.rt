@@ -14,14 +14,8 @@ pub(crate) struct Span {
 pub(crate) fn plain_end(text: &[u8]) -> usize
     ensures { (result ≤ length text.now) × (take result text.now ≡ plain text.now) }
 {
-    let mut i = 0;
-    while i < text.len() {
-        if text[i] == b'#' {
-            return i;
-        }
-        i += 1;
-    }
-    i
+    let remark = text.iter().position(|byte| *byte == b'#');
+    remark.unwrap_or(text.len())
 }
 
 // The next word from a place on; an empty one at the line's end where there is none.
@@ -47,15 +41,9 @@ fn word_start(text: &[u8], at: usize) -> usize
     ensures same_words { words_in (drop result text.now) ≡ words_in (drop at text.now) }
     ensures no_blank { result < length text.now → is_blank (get_or text.now result 0) ≡ false }
 {
-    let mut i = at;
-    while i < text.len() {
-        if is_blank(text[i]) {
-            i += 1;
-        } else {
-            return i;
-        }
-    }
-    i
+    let rest = &text[at..];
+    let start = rest.iter().position(|byte| !is_blank(*byte));
+    at + start.unwrap_or(rest.len())
 }
 
 // The first blank from a place on.
@@ -65,17 +53,12 @@ fn word_end(text: &[u8], at: usize) -> usize
     ensures word { take (result - at) (drop at text.now) ≡ (parted (drop at text.now)).word }
     ensures goes_on { words_in (drop result text.now) ≡ (parted (drop at text.now)).behind }
 {
-    let mut i = at;
-    while i < text.len() {
-        if is_blank(text[i]) {
-            return i;
-        }
-        i += 1;
-    }
-    i
+    let rest = &text[at..];
+    let end = rest.iter().position(|byte| is_blank(*byte));
+    at + end.unwrap_or(rest.len())
 }
 
-fn is_blank(byte: u8) -> bool
+pub(crate) fn is_blank(byte: u8) -> bool
     ensures { result ≡ is_blank byte }
 {
     if byte == b' ' {
@@ -119,15 +102,5 @@ pub(crate) fn kind(word: &[u8]) -> u8
 fn same(word: &[u8], other: &[u8]) -> bool
     ensures { result ≡ same_bytes word.now other.now }
 {
-    if word.len() != other.len() {
-        return false;
-    }
-    let mut i = 0;
-    while i < word.len() {
-        if word[i] != other[i] {
-            return false;
-        }
-        i += 1;
-    }
-    true
+    word == other
 }

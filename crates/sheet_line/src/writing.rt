@@ -48,10 +48,8 @@ pub(crate) fn values_at(head: Head, value: &[u8], room: &mut [u8], at: usize) ->
     ensures { Puts (elements_from head.kind value.now 0 head.count) at room.old result room.new }
 {
     let mut to = at;
-    let mut k = 0;
-    while k < head.count {
+    for k in 0..head.count {
         to = element_at(head.kind, value, k, room, to);
-        k += 1;
     }
     to
 }

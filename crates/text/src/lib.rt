@@ -27,6 +27,7 @@ fn spell(n: u64, digits: &mut [u8]) -> usize
 {
     let mut i: usize = MOST - 1;
     let mut rest = n;
+    // ends by the number: a `for` over the places would need an answer behind it that is never given
     while 10 <= rest {
         digits[i] = digit(rest);
         i -= 1;

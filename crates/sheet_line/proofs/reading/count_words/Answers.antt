@@ -1,19 +1,24 @@
-use mathlib.Core.Path.{refl}
+use mathlib.Core.Path.{◌≡◌, ap, ◌∙◌}
+use mathlib.Core.List.{List}
+use Prim.Native.Nat.{ℕ}
 use native.Mathlib.Omega.{arith}
-use Rattle.sheet_line.specs.Words.{words_in}
-use Rattle.sheet_line.proofs.Steps.{left_on, word_under, words_all}
+use borrow.Author.Rules.{rules}
+use borrow.Author.Tests.{tests}
+use lib.ListN.{length}
+use Rattle.std.proofs.lemmas.Iterator.Consumers.{YieldsList-at, YieldsList-from_filter, count_from_yields_List}
+use Rattle.std.proofs.lemmas.Iterator.Splits.{YieldsList-from_slice_split}
+use Rattle.sheet_line.specs.Words.{is_blank, words_in}
+use Rattle.sheet_line.proofs.Spacing.{is_word, words_cut, words_short}
 use Rattle.sheet_line.proofs.reading.count_words.Goals as goal
 
-pub loop-next-init : goal.loop-next-init
-loop-next-init c = (omega arith, omega arith, omega arith, refl)
-
-pub returns-then-next : goal.returns-then-next
-returns-then-next c = (words_all _ _ c.loop-next.invariant.2 c.loop-next.invariant.3 (c.next-next.ensures.none_left c.if-next.true), omega arith)
-
-pub loop-next-preserved : goal.loop-next-preserved
-loop-next-preserved c =
-    let inv = c.loop-next.invariant in
-    let next = c.next-next.ensures in
-    let words = words_in c.args.text.now in
-    let under = word_under words c.loop-next.k inv.3 (next.one_found (omega (arith, next.in_order.1, c.if-next.false))) in
-    (next.in_order.2, omega (arith, next.in_order, c.if-next.false), omega (arith, under), left_on words c.loop-next.k inv.3 next.goes_on)
+pub returns : goal.returns
+returns c =
+    let text = c.args.text.now in
+    let counted : c.count.result ≡ length (words_in text) =
+    count_from_yields_List c.filter.result _ c.count.ensures.ran
+    (YieldsList-from_filter _ is_word
+    (YieldsList-at c.filter.ensures.source
+    (YieldsList-from_slice_split _ is_blank text c.split.ensures.rest c.split.ensures.done c.split.ensures.closure (λ x r q k. search (rules, tests))))
+    c.filter.ensures.closure (λ x r q k. search (rules, tests)))
+    ∙ ap (λ (l : List (List ℕ)). length l) (words_cut text) in
+    (counted, omega (arith, counted, words_short text))

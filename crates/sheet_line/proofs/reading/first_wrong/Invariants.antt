@@ -1,14 +1,10 @@
 use mathlib.Core.Path.{◌≡◌}
 use mathlib.Core.Bool.{false}
-use Prim.Native.Nat.{ℕ, ◌-◌, ◌≤◌, ◌<◌}
+use Prim.Native.Nat.{ℕ, ◌≤◌, ◌<◌}
 use lib.ListN.{length, drop}
 use Rattle.sheet_line.specs.Words.{words_in}
 use Rattle.sheet_line.specs.Line.{is_no_number}
 use Rattle.sheet_line.proofs.reading.first_wrong.Given as goal
 
-abbrev pub invariant-loop-at : goal.invariant-loop-at
-invariant-loop-at l = (l.at ≤ length l.text) × (l.k ≤ l.at) × (l.k ≤ length (words_in l.text)) × (drop l.k (words_in l.text) ≡ words_in (drop l.at l.text))
-    × ((j : ℕ) → j < l.k → is_no_number (words_in l.text) j ≡ false)
-
-abbrev pub decreases-loop-at : goal.decreases-loop-at
-decreases-loop-at l = length l.text - l.at
+abbrev pub invariant-loop-k : goal.invariant-loop-k
+invariant-loop-k l = (l.at ≤ length l.text) × (drop l.k (words_in l.text) ≡ words_in (drop l.at l.text)) × ((j : ℕ) → j < l.k → is_no_number (words_in l.text) j ≡ false)

@@ -1,23 +1,9 @@
-use native.Mathlib.Omega.{arith}
-use Rattle.sheet_line.proofs.Spacing.{word_starts, word_on, word_ends, word_ends_all}
+use borrow.Author.Rules.{rules}
+use Rattle.sheet_line.proofs.Spacing.{word_ends}
 use Rattle.sheet_line.proofs.words.word_end.Goals as goal
 
-pub loop-i-init : goal.loop-i-init
-loop-i-init c = (omega arith, c.requires, word_starts c.args.text.now c.args.at)
+pub returns-clause-word : goal.returns-clause-word
+returns-clause-word c = (word_ends c.args.text.now c.args.at c.unwrap_or.result (search rules) (search rules) (search rules)).0
 
-pub returns-then-is_blank : goal.returns-then-is_blank
-returns-then-is_blank c =
-    let inv = c.loop-i.invariant in
-    let end = word_ends _ _ _ c.loop-i-test.true c.is_blank.ensures c.if-is_blank.true inv.2 in
-    record { in_text = (inv.0, inv.1); word = end.0; goes_on = end.1 }
-
-pub loop-i-preserved : goal.loop-i-preserved
-loop-i-preserved c =
-    let inv = c.loop-i.invariant in
-    (omega arith, omega arith, word_on _ _ _ inv.0 c.loop-i-test.true c.is_blank.ensures c.if-is_blank.false inv.2)
-
-pub returns : goal.returns
-returns c =
-    let inv = c.loop-i.invariant in
-    let end = word_ends_all _ _ _ c.loop-i-test.false inv.2 in
-    record { in_text = (inv.0, inv.1); word = end.0; goes_on = end.1 }
+pub returns-clause-goes_on : goal.returns-clause-goes_on
+returns-clause-goes_on c = (word_ends c.args.text.now c.args.at c.unwrap_or.result (search rules) (search rules) (search rules)).1
