@@ -31,13 +31,13 @@ unfolding plain
 plain_cut b rest e = rw (eq-eqb b 35 e)
 
 -- where the first `#` stands, or the end where there is none
-pub plain_ends : (text : List ℕ) (i : ℕ) → i ≤ length text → ((k : ℕ) → k < i → get_or text k 0 ≢ 35) → (i < length text → get_or text i 0 ≡ 35)
+pub plain_to : (text : List ℕ) (i : ℕ) → i ≤ length text → ((k : ℕ) → k < i → get_or text k 0 ≢ 35) → (i < length text → get_or text i 0 ≡ 35)
     → take i text ≡ plain text
-plain_ends [] zero l before there = sym plain_none
-plain_ends [] (suc i) l before there = absurd (not-suc-le-zero l)
-plain_ends (b ∷ rest) zero l before there = sym (plain_cut b rest (there (omega arith)))
-plain_ends (b ∷ rest) (suc i) l before there =
-    ap (λ (xs : List ℕ). b ∷ xs) (plain_ends rest i (le_of_suc-le-suc l) (λ k h. before (suc k) (suc-le-suc h)) (λ h. there (suc-le-suc h)))
+plain_to [] zero l before there = sym plain_none
+plain_to [] (suc i) l before there = absurd (not-suc-le-zero l)
+plain_to (b ∷ rest) zero l before there = sym (plain_cut b rest (there (omega arith)))
+plain_to (b ∷ rest) (suc i) l before there =
+    ap (λ (xs : List ℕ). b ∷ xs) (plain_to rest i (le_of_suc-le-suc l) (λ k h. before (suc k) (suc-le-suc h)) (λ h. there (suc-le-suc h)))
     ∙ sym (plain_kept b rest (before 0 (omega arith)))
 
 -- ---- a blank, and what is none
@@ -105,11 +105,11 @@ module _ (text : List ℕ) (at j : ℕ) (within : j ≤ length (take (length tex
   behind_lem : drop (at + j) text ≡ drop j rest
   behind_lem = sym (drop-drop j at text) ∙ ap (λ (l : List ℕ). drop j l) (sym lent_lem)
 
-  pub word_starts : ((k : ℕ) → k < j → is_blank (get_or rest k 0) ≡ true) → words_in (drop (at + j) text) ≡ words_in (drop at text)
-  word_starts blank = ap words_in behind_lem ∙ (start_in rest j within blank ∙ ap words_in lent_lem)
+  pub start_told : ((k : ℕ) → k < j → is_blank (get_or rest k 0) ≡ true) → words_in (drop (at + j) text) ≡ words_in (drop at text)
+  start_told blank = ap words_in behind_lem ∙ (start_in rest j within blank ∙ ap words_in lent_lem)
 
-  pub word_ends : ((k : ℕ) → k < j → is_blank (get_or rest k 0) ≡ false) → (j < length rest → is_blank (get_or rest j 0) ≡ true) → EndsAt text at (at + j)
-  word_ends before there =
+  pub end_told : ((k : ℕ) → k < j → is_blank (get_or rest k 0) ≡ false) → (j < length rest → is_blank (get_or rest j 0) ≡ true) → EndsAt text at (at + j)
+  end_told before there =
       let end = end_in rest j within before there in
       let on : at + j - at ≡ j = omega arith in (
         ap₂ (λ (n : ℕ) (l : List ℕ). take n l) on (sym lent_lem) ∙ (end.0 ∙ ap (λ (l : List ℕ). (parted l).word) lent_lem),
