@@ -10,7 +10,7 @@ use native.Mathlib.Omega.{arith}
 use borrow.Author.Tests.{lt-ltb, le-ltb, ltb-true, ltb-false, eq-eqb, ne_eqb}
 use lib.Dec.{ltb}
 use lib.ListN.{length, get_or, get_or-eq_default}
-use Rattle.first.proofs.Laws.{Ended, ended, first-none}
+use Rattle.first.proofs.Laws.{Ended, ended}
 use Rattle.frame.specs.Frame.{between}
 use Rattle.rows.proofs.Laws.{decides_eq, decides_and, decides_not, told_true, told_false, refused_exactly, clash}
 use Rattle.rows.proofs.Settled.{settled}
@@ -38,13 +38,6 @@ by_next frame at is follows told = rw (eq-eqb (byte frame at) 94 is, ← told)
 
 pub at-end : (frame : List ℕ) (at : ℕ) → byte frame at ≡ 94 → length frame ≤ at + 1 → true ≡ is_faulty frame at
 at-end frame at is past = rw (eq-eqb (byte frame at) 94 is, get_or-eq_default frame 0 past)
-
--- a search that came to the end found none
-pub none_found : (frame : List ℕ) (k : ℕ) → k ≤ length frame → length frame ≤ k → ((j : ℕ) → j < k → is_faulty frame j ≡ false) → k ≡ bad_place frame
-unfolding bad_place
-none_found frame k within past before =
-    let all : k ≡ length frame = omega arith in
-    all ∙ sym (first-none (is_faulty frame) (length frame) (λ j l. before j (omega (arith, all))))
 
 -- ---- the whole frame
 

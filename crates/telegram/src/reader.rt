@@ -133,28 +133,19 @@ fn not_framed(frame: &[u8]) -> bool
 fn stray_end(bytes: &[u8]) -> bool
     ensures { result ≡ has_stray_end bytes.now }
 {
-    let mut i = 0;
-    while i < bytes.len() {
-        if bytes[i] == END || bytes[i] == START {
-            return true;
-        }
-        i += 1;
-    }
-    false
+    bytes.iter().any(|byte| *byte == END || *byte == START)
 }
 
 // The place of the first faulty 94; the frame's length where there is none.
 fn bad_place(frame: &[u8]) -> usize
     ensures { result ≡ bad_place frame.now }
 {
-    let mut i = 0;
-    while i < frame.len() {
-        if is_faulty(frame, i) {
-            return i;
+    for at in 0..frame.len() {
+        if is_faulty(frame, at) {
+            return at;
         }
-        i += 1;
     }
-    i
+    frame.len()
 }
 
 // Whether at a place stands a 94 whose next byte does not make a right pair with it.
