@@ -88,14 +88,9 @@ fn wide(byte: u8) -> u64
 pub fn load(bytes: &[u8]) -> u64
     ensures { Loads bytes.now result }
 {
-    let mut left = bytes.len();
-    if 8 < left {
-        left = 8;
-    }
     let mut value: u64 = 0;
-    while 0 < left {
-        left -= 1;
-        value = value * 256 + wide(bytes[left]);
+    for at in (0..bytes.len().min(8)).rev() {
+        value = value * 256 + wide(bytes[at]);
     }
     value
 }
@@ -106,15 +101,10 @@ pub fn store(value: u64, size: usize, room: &mut [u8])
     ensures { Stores value size room.old room.new }
 {
     let mut rest = value;
-    let mut i = 0;
-    while i < size {
-        if i < room.len() {
-            room[i] = (rest % 256) as u8;
-        } else {
-            return;
-        }
-        rest = rest / 256;
-        i += 1;
+    let n = size.min(room.len());
+    for byte in &mut room[..n] {
+        *byte = (rest % 256) as u8;
+        rest /= 256;
     }
 }
 

@@ -7,45 +7,32 @@ use lib.Seq.{drop-length, get_or-take}
 use Rattle.values.specs.Values.{Bytes, natural}
 use Rattle.values.proofs.Bytes.{bytes_take, natural_from, natural_room}
 use Rattle.values.proofs.load.Goals as goal
-use Rattle.values.proofs.load.Goals.{then-left-gt8, else-left-gt8}
 
-start : (bytes : List ℕ) (left : ℕ) → left ≡ length (take 8 bytes) → (left ≤ length (take 8 bytes)) × (0 ≡ natural (drop left (take 8 bytes)))
+start : (bytes : List ℕ) (at : ℕ) → at ≡ length (take 8 bytes) → (at ≤ length (take 8 bytes)) × (0 ≡ natural (drop at (take 8 bytes)))
 unfolding natural
-start bytes left e = (omega arith, rw (e, drop-length (take 8 bytes)))
+start bytes at e = (omega arith, rw (e, drop-length (take 8 bytes)))
 
-room : (bytes : List ℕ) (left value : ℕ) → Bytes bytes → 0 < left → value ≡ natural (drop left (take 8 bytes)) → value < 2 ^ 56
-room bytes left value b p e = rw e (natural_room (take 8 bytes) left (bytes_take 8 bytes b) p (omega (arith, length-take 8 bytes)))
+room : (bytes : List ℕ) (at value : ℕ) → Bytes bytes → 0 < at → value ≡ natural (drop at (take 8 bytes)) → value < 2 ^ 56
+room bytes at value b p e = rw e (natural_room (take 8 bytes) at (bytes_take 8 bytes b) p (omega (arith, length-take 8 bytes)))
 
-step : (bytes : List ℕ) (left value byte : ℕ) → 0 < left → left ≤ length (take 8 bytes) → byte ≡ get_or bytes (left - 1) 0
-    → value ≡ natural (drop left (take 8 bytes)) → value * 256 + byte ≡ natural (drop (left - 1) (take 8 bytes))
-step bytes left value byte p h b e =
-    let under : left - 1 < 8 = omega (arith, length-take 8 bytes) in
-    ap (λ (x : ℕ). value * 256 + x) (b ∙ sym (get_or-take 8 bytes (left - 1) 0 under)) ∙ natural_from (take 8 bytes) left value p h e
+step : (bytes : List ℕ) (at value byte : ℕ) → 0 < at → at ≤ length (take 8 bytes) → byte ≡ get_or bytes (at - 1) 0
+    → value ≡ natural (drop at (take 8 bytes)) → value * 256 + byte ≡ natural (drop (at - 1) (take 8 bytes))
+step bytes at value byte p h b e =
+    let under : at - 1 < 8 = omega (arith, length-take 8 bytes) in
+    ap (λ (x : ℕ). value * 256 + x) (b ∙ sym (get_or-take 8 bytes (at - 1) 0 under)) ∙ natural_from (take 8 bytes) at value p h e
 
-pub loop-left-init : goal.loop-left-init
-loop-left-init c =
-    let bytes = c.args.bytes.now in
-    let all : c.if-left-gt8.left ≡ length (take 8 bytes) = elim c.if-left-gt8.branch [ then-left-gt8 w ↦ omega (arith, length-take 8 bytes) | else-left-gt8 w ↦ omega (arith, length-take 8 bytes) ] in
-    start bytes c.if-left-gt8.left all
+pub loop-at-init : goal.loop-at-init
+loop-at-init c = start c.args.bytes.now _ (omega (arith, c.min-at.ensures, length-take 8 c.args.bytes.now))
 
 -- in a turn there is room for one byte more
 pub overflow_mul-value : goal.overflow_mul-value
-overflow_mul-value c = omega (arith, room c.args.bytes.now _ _ (λ i. (c.type_inv.bytes i).fits) c.loop-left-test.true c.loop-left.invariant.1)
-
-pub bounds-bytes-left : goal.bounds-bytes-left
-bounds-bytes-left c = omega (arith, length-take 8 c.args.bytes.now)
+overflow_mul-value c = omega (arith, room c.args.bytes.now _ _ (λ i. (c.type_inv.bytes i).fits) c.loop-at-test.true c.loop-at.invariant.1)
 
 pub overflow_add-value : goal.overflow_add-value
-overflow_add-value c = omega (arith, room c.args.bytes.now _ _ (λ i. (c.type_inv.bytes i).fits) c.loop-left-test.true c.loop-left.invariant.1, c.wide.ensures, c.type_inv.bytes (c.loop-left.left - 1))
+overflow_add-value c = omega (arith, room c.args.bytes.now _ _ (λ i. (c.type_inv.bytes i).fits) c.loop-at-test.true c.loop-at.invariant.1, c.wide.ensures, c.type_inv.bytes (c.loop-at.at - 1))
 
-pub loop-left-preserved : goal.loop-left-preserved
-loop-left-preserved c = (
+pub loop-at-preserved : goal.loop-at-preserved
+loop-at-preserved c = (
   omega arith,
-  step c.args.bytes.now _ _ _ c.loop-left-test.true c.loop-left.invariant.0 c.wide.ensures
-      c.loop-left.invariant.1,
+  step c.args.bytes.now _ _ _ c.loop-at-test.true c.loop-at.invariant.0 c.wide.ensures c.loop-at.invariant.1,
 )
-
-pub returns : goal.returns
-returns c =
-    let none : c.loop-left.left ≡ 0 = omega arith in
-    rw none at c.loop-left.invariant.1

@@ -1,12 +1,14 @@
 use mathlib.Core.Path.{◌≡◌, refl, sym, ap, ◌∙◌}
-use mathlib.Core.List.{List}
-use Prim.Native.Nat.{ℕ, suc, ◌+◌, ◌-◌, ◌/◌, ◌%◌, ◌<◌}
+use mathlib.Core.List.{List, [], ◌∷◌, ◌++◌}
+use Prim.Native.Nat.{ℕ, zero, suc, ◌+◌, ◌-◌, ◌/◌, ◌%◌, ◌<◌, ◌≤◌, min}
 use native.Mathlib.Numerals.{add-one}
 use native.Mathlib.Omega.{arith}
-use lib.ListN.{length, set, length-set}
+use lib.ListN.{length, set, take, drop, length-take}
+use Rattle.std.proofs.lemmas.List.{take-append-drop}
 use Rattle.lent.specs.Lent.{over, over_at}
-use Rattle.lent.proofs.Laws.{over_at_none, over_at_past, over_at_set, over_at_zero}
+use Rattle.lent.proofs.Laws.{over_at_past, over_at_set, over_at_zero}
 use Rattle.values.specs.Values.{bytes_of}
+use Rattle.values.proofs.Bytes.{length-bytes_of}
 use Rattle.values.proofs.store.Goals as goal
 
 step : (size i rest : ℕ) (room w : List ℕ) → i < size → i < length room → over_at i (bytes_of (size - i) rest) room ≡ w
@@ -23,21 +25,27 @@ start size v room =
     let all : size - 0 ≡ size = omega arith in
     rw all (over_at_zero (bytes_of size v) room)
 
-pub loop-i-init : goal.loop-i-init
-loop-i-init c = (omega arith, refl, start _ _ _)
+-- what is laid over as much of a room as it takes is laid over the room
+laid : (n : ℕ) (xs room : List ℕ) → min (length xs) (length room) ≤ n → over xs (take n room) ++ drop n room ≡ over xs room
+unfolding over
+laid n [] room h = take-append-drop n room
+laid zero (x ∷ xs) [] h = refl
+laid (suc n) (x ∷ xs) [] h = refl
+laid zero (x ∷ xs) (y ∷ room) h = absurd (omega arith)
+laid (suc n) (x ∷ xs) (y ∷ room) h = ap (λ (l : List ℕ). x ∷ l) (laid n xs room (omega arith))
 
-pub returns-else-i-room : goal.returns-else-i-room
-returns-else-i-room c = sym (over_at_past _ _ _ c.if-i-room.false) ∙ c.loop-i.invariant.2
+pub loop-byte-init : goal.loop-byte-init
+loop-byte-init c = start _ _ _
 
-pub loop-i-preserved : goal.loop-i-preserved
-loop-i-preserved c = (
-  omega arith,
-  simp length-set c.loop-i.invariant.1,
-  step _ _ _ _ _ c.loop-i-test.true c.if-i-room.true c.loop-i.invariant.2,
-)
+pub loop-byte-preserved : goal.loop-byte-preserved
+loop-byte-preserved c =
+    let turn = c.loop-byte in
+    let places = length-take c.min-n.result c.args.room.now in
+    step _ _ _ _ _ (omega (arith, places, c.loop-byte-test.true, c.min-n.ensures)) (omega (arith, c.loop-byte-test.true, turn.auto.byte-items)) turn.invariant
 
 pub returns : goal.returns
-unfolding bytes_of
 returns c =
-    let none : c.args.size - c.loop-i.i ≡ 0 = omega arith in
-    sym (over_at_none c.loop-i.i c.loop-i.room) ∙ (rw none at c.loop-i.invariant.2)
+    let turn = c.loop-byte in
+    let all = sym (over_at_past _ _ _ (omega (arith, c.loop-byte-test.false, turn.auto.byte-items))) ∙ turn.invariant in
+    ap (λ (l : List ℕ). l ++ drop c.min-n.result c.args.room.now) all
+    ∙ laid c.min-n.result (bytes_of c.args.size c.args.value) c.args.room.now (omega (arith, c.min-n.ensures, length-bytes_of c.args.size c.args.value))
