@@ -1,15 +1,19 @@
--- Looking a line up: from one place of the table to the next.
+-- Looking a line up: what a search of the rows finds.
 -- Assumes nothing.
 use mathlib.Core.Path.{◌≡◌, refl, sym, ap, ◌∙◌}
-use mathlib.Core.Bool.{Bool, true, false, ◌&&◌, true≢false}
-use mathlib.Core.List.{List, ◌∷◌}
-use Prim.Native.Nat.{ℕ, suc, ◌+◌, ◌<◌}
-use native.Mathlib.Numerals.{add-one}
-use borrow.Author.Tests.{eq-eqb, ne_eqb, eqb-true}
+use mathlib.Core.Bool.{Bool, true, false, cond, not, ◌&&◌, ◌||◌, true≢false}
+use mathlib.Core.List.{List, [], ◌∷◌, map}
+use mathlib.Core.Option.{some, none}
+use Prim.Native.Nat.{ℕ}
+use borrow.Author.Tests.{eq-eqb, eqb-true}
 use lib.Dec.{eqb}
-use lib.ListN.{length, get_or, drop}
-use lib.Seq.{drop-cons}
-use Rattle.catalogue.specs.Catalogue.{Line, nothing, For, is_for, named, line_for}
+use Rattle.std.proofs.Common.{Option, Some, None}
+use Rattle.std.specs.List.{find}
+use Rattle.catalogue.specs.Catalogue.{Line, table, For, row_of, entry_of, is_for, named, line_for, find_refusal, find_answer, find_entry}
+use Rattle.catalogue.specs.declared.table.Row.{Row}
+use Rattle.catalogue.specs.declared.Fault.TheVariants.{NoSuchRow}
+use Rattle.catalogue.specs.declared.Found.{Found}
+use Rattle.catalogue.specs.declared.Found.TheVariants.{Is, Refused}
 
 pub is_for_lem : (model register : ℕ) (l : Line) → For model register l → is_for model register l ≡ true
 unfolding is_for
@@ -24,46 +28,32 @@ for_is model register l = both (eqb l.model model) (eqb l.register register) ref
     both true false p q e = absurd (true≢false (sym e))
     both false b p q e = absurd (true≢false (sym e))
 
-pub other_model : (model register : ℕ) (l : Line) → (l.model ≡ model → ⊥) → is_for model register l ≡ false
-unfolding is_for
-other_model model register l h = rw (ne_eqb _ _ h)
+-- a row of the program is that of this type and register
+abbrev pub row_for : ℕ → ℕ → Row → Bool
+row_for model register r = eqb r.model model && eqb r.register register
 
-pub other_register : (model register : ℕ) (l : Line) → l.model ≡ model → (l.register ≡ register → ⊥) → is_for model register l ≡ false
-unfolding is_for
-other_register model register l e h = rw (eq-eqb _ _ e, ne_eqb _ _ h)
+-- the first such row is that of the line which is answered
+pub first_row : (model register : ℕ) (ls : List Line)
+    → find (row_for model register) (map row_of ls) ≡ cond (named model register ls) (Some (row_of (line_for model register ls))) None
+unfolding is_for named line_for
+first_row model register [] = refl
+first_row model register (l ∷ ls) = go (row_for model register (row_of l)) (first_row model register ls)
+  where
+    go : (b : Bool) {o : Option Row} → o ≡ cond (named model register ls) (Some (row_of (line_for model register ls))) None
+        → cond b (Some (row_of l)) o ≡ cond (b || named model register ls) (Some (row_of (cond b l (line_for model register ls)))) None
+    go true e = refl
+    go false e = e
 
--- what a search of these lines finds
-pub record Same (model register : ℕ) (xs ys : List Line) : Type 0 where
-  pub names : named model register xs ≡ named model register ys
-  pub gives : line_for model register xs ≡ line_for model register ys
+-- and so what is answered of what a search of the rows found
+abbrev pub answer_of : Option Row → Found
+answer_of (Some r) = Is (record { kind = r.kind; writable = r.writable; lowest = r.lowest; highest = r.highest })
+answer_of None = Refused NoSuchRow
 
--- a line that is not looked for is passed over, and the first that is ends the search
-pass : (model register : ℕ) (l : Line) (rest : List Line) → is_for model register l ≡ false → Same model register (l ∷ rest) rest
-unfolding named line_for
-pass model register l rest e = record { names = rw e; gives = rw e }
-
-pub hit : (model register : ℕ) (l : Line) (rest : List Line) → is_for model register l ≡ true
-    → (named model register (l ∷ rest) ≡ true) × (line_for model register (l ∷ rest) ≡ l)
-unfolding named line_for
-hit model register l rest e = (rw e, rw e)
-
-module _ (model register : ℕ) (xs ys : List Line) (i : ℕ) (within : i < length xs) (same : Same model register (drop i xs) ys) where
-  front : drop i xs ≡ get_or xs i nothing ∷ drop (suc i) xs
-  front = drop-cons xs i nothing within
-
-  pub passed_at : is_for model register (get_or xs i nothing) ≡ false → Same model register (drop (i + 1) xs) ys
-  passed_at e =
-      let next : Same model register (get_or xs i nothing ∷ drop (suc i) xs) (drop (suc i) xs) = pass model register _ _ e in
-      rw (add-one i)
-      (record {
-        names = sym next.names ∙ sym (ap (named model register) front) ∙ same.names;
-        gives = sym next.gives ∙ sym (ap (line_for model register) front) ∙ same.gives;
-      })
-
-  pub hit_at : is_for model register (get_or xs i nothing) ≡ true
-      → (named model register ys ≡ true) × (line_for model register ys ≡ get_or xs i nothing)
-  hit_at e =
-      let here = hit model register (get_or xs i nothing) (drop (suc i) xs) e in (
-        sym same.names ∙ ap (named model register) front ∙ here.0,
-        sym same.gives ∙ ap (line_for model register) front ∙ here.1,
-      )
+pub answered : (model register : ℕ) {o : Option Row} → o ≡ find (row_for model register) (map row_of table) → answer_of o ≡ find_entry model register
+unfolding find_entry find_refusal
+answered model register e = ap answer_of (e ∙ first_row model register table) ∙ go (named model register table)
+  where
+    go : (b : Bool) → answer_of (cond b (Some (row_of (line_for model register table))) None)
+        ≡ find_answer (cond (not b) (some NoSuchRow) none) (entry_of (line_for model register table))
+    go true = refl
+    go false = refl

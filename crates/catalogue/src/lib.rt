@@ -39,18 +39,16 @@ pub fn number(fault: Fault) -> u8
 pub fn find(model: u8, register: u8) -> Found
     ensures { Finds model register result }
 {
-    let mut at: usize = 0;
-    while at < table::MANY {
-        let row = table::row_at(at);
-        if row.model == model && row.register == register {
-            return Found::Is(Entry {
-                kind: row.kind,
-                writable: row.writable,
-                lowest: row.lowest,
-                highest: row.highest,
-            });
-        }
-        at += 1;
+    let found = table::ROWS
+        .iter()
+        .find(|row| row.model == model && row.register == register);
+    match found {
+        Some(row) => Found::Is(Entry {
+            kind: row.kind,
+            writable: row.writable,
+            lowest: row.lowest,
+            highest: row.highest,
+        }),
+        None => Found::Refused(Fault::NoSuchRow),
     }
-    Found::Refused(Fault::NoSuchRow)
 }

@@ -1,7 +1,4 @@
 // The catalogue's rows.
-ghost use Rattle.std.specs.Prelude.{◌≡◌, ◌<◌, get_or};
-ghost use Rattle.catalogue.specs.Catalogue.{table, nothing, row_of};
-
 // The types of modules.
 const SELECT: u8 = 0x67;
 
@@ -35,10 +32,8 @@ pub(crate) struct Row {
     pub(crate) highest: u64,
 }
 
-pub(crate) const MANY: usize = 28;
-
 // In the paper's order.
-const ROWS: [Row; MANY] = [
+pub(crate) const ROWS: [Row; 28] = [
     Row {
         model: SELECT,
         register: 0x10,
@@ -264,10 +259,3 @@ const ROWS: [Row; MANY] = [
         highest: 100,
     },
 ];
-
-pub(crate) fn row_at(at: usize) -> Row
-    requires { at < 28 }
-    ensures { result ≡ row_of (get_or table at nothing) }
-{
-    ROWS[at]
-}
