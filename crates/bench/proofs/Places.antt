@@ -1,42 +1,62 @@
 -- Where a register is held.
 -- Assumes nothing.
-use mathlib.Core.Path.{◌≡◌, refl, sym, ◌∙◌}
-use mathlib.Core.Bool.{Bool, true, false}
+use mathlib.Core.Path.{◌≡◌, refl, ap, ◌∙◌}
+use mathlib.Core.Bool.{Bool, true, false, cond}
 use Prim.Native.Nat.{ℕ, ◌≤◌, ◌<◌}
 use native.Mathlib.Omega.{arith}
-use borrow.Author.Tests.{lt-ltb, le-ltb, eq-eqb, ne_eqb, ltb-true}
+use borrow.Author.Tests.{ltb-true}
 use lib.Dec.{eqb}
-use Rattle.first.proofs.Laws.{first_at, first-none}
+use lib.ListN.{length, take, length-take}
+use lib.Seq.{get_or-take}
+use Rattle.std.proofs.Common.{Option, Some, None}
+use Rattle.std.proofs.lemmas.List.Sums.{position_or_len_is}
+use Rattle.std.specs.List.{position, position_or_len}
+use Rattle.first.proofs.Laws.{Ended, ended}
 use Rattle.rows.proofs.Laws.{clash}
-use Rattle.bench.specs.Register.{register_at, held_count, place_of, is_held, found_at, found}
+use Rattle.deeds.specs.declared.Register.{Register}
+use Rattle.bench.specs.Register.{no_register, register_at, held_count, place_of, is_held, found_at, found}
 use Rattle.bench.specs.declared.Bench.{Bench}
+use Rattle.bench.specs.declared.held.Found.{Found}
 use Rattle.bench.specs.declared.held.Found.TheVariants.{At, Nowhere}
 
 -- ---- the search: a register is held at the first place that has its number
 
-place_at : (bench : Bench) (number n place : ℕ) → n ≡ held_count bench → place < n
-    → ((i : ℕ) → i < place → (register_at bench i).number ≡ number → ⊥) → (register_at bench place).number ≡ number → place ≡ place_of bench number
+abbrev pub is_numbered : ℕ → Register → Bool
+is_numbered number register = eqb register.number number
+
+place_found : (bench : Bench) (number n : ℕ) → n ≡ held_count bench → n ≤ length bench.registers
+    → position_or_len (is_numbered number) (take n bench.registers) ≡ place_of bench number
 unfolding place_of
-place_at bench number n place e h before there =
-    sym (first_at (λ p. eqb (register_at bench p).number number) (held_count bench) place (rw e at h) (λ i l. ne_eqb _ _ (before i l)) (eq-eqb _ _ there))
+place_found bench number n e h =
+    position_or_len_is (is_numbered number) (take n bench.registers) (place_of bench number) no_register (omega (arith, search_ended.within, many, e))
+    (λ k l. ap (is_numbered number) (get_or-take n bench.registers k no_register (omega (arith, l, search_ended.within, e))) ∙ search_ended.before k l)
+    (λ l. let under : place_of bench number < n = omega (arith, l, many) in
+    ap (is_numbered number) (get_or-take n bench.registers (place_of bench number) no_register under) ∙ search_ended.there (omega (arith, under, e)))
+  where
+    search_ended : Ended (λ p. eqb (register_at bench p).number number) (held_count bench) (place_of bench number)
+    search_ended = ended (λ p. eqb (register_at bench p).number number) (held_count bench)
 
-place_none : (bench : Bench) (number n place : ℕ) → n ≡ held_count bench → n ≤ place
-    → ((i : ℕ) → i < place → (register_at bench i).number ≡ number → ⊥) → n ≡ place_of bench number
-unfolding place_of
-place_none bench number n place e h before =
-    e ∙ sym (first-none (λ p. eqb (register_at bench p).number number) (held_count bench) (λ i l. ne_eqb _ _ (before i (omega arith))))
+    many : length (take n bench.registers) ≡ n
+    many = omega (arith, length-take n bench.registers, h)
 
-pub found_at_lem : (bench : Bench) (number n place : ℕ) → n ≡ held_count bench → place < n
-    → ((i : ℕ) → i < place → (register_at bench i).number ≡ number → ⊥) → (register_at bench place).number ≡ number → At place ≡ found bench number
-found_at_lem bench number n place e h before there =
-    let is : place ≡ place_of bench number = place_at bench number n place e h before there in
-    rw (lt-ltb (place_of bench number) (held_count bench) (rw (is, e) at h), is)
+-- what is answered of what a search of the registers held found
+abbrev pub answer_of : Option ℕ → Found
+answer_of (Some place) = At place
+answer_of None = Nowhere
 
-pub found_none : (bench : Bench) (number n place : ℕ) → n ≡ held_count bench → n ≤ place
-    → ((i : ℕ) → i < place → (register_at bench i).number ≡ number → ⊥) → Nowhere ≡ found bench number
-found_none bench number n place e h before =
-    let is : n ≡ place_of bench number = place_none bench number n place e h before in
-    rw (le-ltb (place_of bench number) (held_count bench) (omega (arith, is, e)))
+pub answered : (bench : Bench) (number n : ℕ) → n ≡ held_count bench → n ≤ length bench.registers → {o : Option ℕ}
+    → o ≡ position (is_numbered number) (take n bench.registers) → answer_of o ≡ found bench number
+answered bench number n e h is = ap answer_of (is ∙ plainly) ∙ go (is_held bench number)
+  where
+    many : length (take n bench.registers) ≡ held_count bench
+    many = omega (arith, length-take n bench.registers, h, e)
+
+    plainly : position (is_numbered number) (take n bench.registers) ≡ cond (is_held bench number) (Some (place_of bench number)) None
+    plainly = rw (place_found bench number n e h, many) refl
+
+    go : (b : Bool) → answer_of (cond b (Some (place_of bench number)) None) ≡ found_at b (place_of bench number)
+    go true = refl
+    go false = refl
 
 -- ---- what the search tells
 

@@ -53,15 +53,11 @@ pub(crate) fn register_at(bench: Bench, place: usize) -> Register
 pub(crate) fn find(bench: Bench, number: u8) -> Found
     ensures { result ≡ found bench number }
 {
-    let n = held_count(bench);
-    let mut place = 0;
-    while place < n {
-        if register_at(bench, place).number == number {
-            return Found::At(place);
-        }
-        place += 1;
+    let held = &bench.registers[..held_count(bench)];
+    match held.iter().position(|register| register.number == number) {
+        Some(place) => Found::At(place),
+        None => Found::Nowhere,
     }
-    Found::Nowhere
 }
 
 // The bench with one register more, behind those that it holds.

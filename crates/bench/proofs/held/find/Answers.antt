@@ -1,24 +1,27 @@
-use mathlib.Core.Path.{sym, ap, ◌∙◌}
+-- `find` looks for the first of the registers held that has the number.
+-- Assumes nothing.
+use mathlib.Core.Path.{◌≡◌}
 use native.Mathlib.Omega.{arith}
-use borrow.Author.Count.{below_more}
-use Rattle.bench.proofs.Places.{found_at_lem, found_none}
-use Rattle.deeds.specs.declared.Register.{Register}
+use lib.ListN.{take}
+use Rattle.std.proofs.Common.{rules, tests}
+use Rattle.std.proofs.lemmas.Iterator.{YieldsList-from_slice}
+use Rattle.std.proofs.lemmas.Iterator.Search.{position_from_yields_List}
+use Rattle.std.specs.List.{position}
+use Rattle.bench.proofs.Places.{is_numbered, answered}
 use Rattle.bench.proofs.held.find.Goals as goal
+use Rattle.bench.proofs.held.find.Goals.{After-position}
 
-pub loop-place-init : goal.loop-place-init
-loop-place-init c = (omega arith, λ i l. absurd (omega arith))
+looked : (c : After-position) → c.position.result ≡ position (is_numbered c.args.number) (take c.held_count.result c.args.bench.registers)
+looked c =
+    position_from_yields_List (is_numbered c.args.number) _ _ c.position.result c.position.ensures.ran
+    (YieldsList-from_slice (take c.held_count.result c.args.bench.registers) cc) (λ x b q k. search (rules, tests))
 
-pub returns-then-register_at-number : goal.returns-then-register_at-number
-returns-then-register_at-number c =
-    found_at_lem _ _ _ _ c.held_count-n.ensures c.loop-place-test.true c.loop-place.invariant.1
-    (ap (λ (r : Register). r.number) (sym c.register_at.ensures) ∙ c.if-register_at-number.true)
+pub returns-in-Some : goal.returns-in-Some
+returns-in-Some c =
+    let found = looked (goal.at.returns-in-Some c).After-position in
+    answered c.args.bench c.args.number _ c.held_count.ensures (omega (arith, c.held_count.ensures)) (rw c.in-Some.is at found)
 
-pub loop-place-preserved : goal.loop-place-preserved
-loop-place-preserved c = (
-  omega arith,
-  below_more _ _ c.loop-place.invariant.1
-      (λ e. c.if-register_at-number.false (ap (λ (r : Register). r.number) c.register_at.ensures ∙ e)),
-)
-
-pub returns : goal.returns
-returns c = found_none _ _ _ _ c.held_count-n.ensures c.loop-place-test.false c.loop-place.invariant.1
+pub returns-in-None : goal.returns-in-None
+returns-in-None c =
+    let found = looked (goal.at.returns-in-None c).After-position in
+    answered c.args.bench c.args.number _ c.held_count.ensures (omega (arith, c.held_count.ensures)) (rw c.in-None.is at found)
