@@ -6,6 +6,7 @@ use mathlib.Core.List.{List}
 use mathlib.Core.Logic.{◌≢◌}
 use mathlib.Core.Option.{Option, some, none}
 use Prim.Native.Nat.{ℕ, ◌+◌, ◌-◌, ◌≤◌, ◌<◌}
+use native.Mathlib.Decide.{dec_lt}
 use native.Mathlib.Omega.{arith}
 use borrow.Author.Tests.{leb-true, le-ltb, le-leb, lt-leb, eq-eqb, ne_eqb}
 use lib.Dec.{eqb, ltb, leb}
@@ -54,9 +55,13 @@ live_host desk address e = go (leb 161 address) refl e
     go true p q = leb-true 161 address p
     go false p q = absurd (true≢false (sym q))
 
--- a search that has passed all 95 places
-pub end_none : (fits : ℕ → Bool) (k : ℕ) → k ≤ 95 → 95 ≤ k → ((i : ℕ) → i < k → fits i ≡ false) → k ≡ first_place fits 95
-end_none fits k below above before = let e : k ≡ 95 = omega arith in e ∙ sym (first-none fits 95 (rw e at before))
+-- a search over all 95 places
+pub found : (fits : ℕ → Bool) (k : ℕ) → ((i : ℕ) → i < k → fits i ≡ false) → (k < 95 → fits k ≡ true) → k ≤ 95 → k ≡ first_place fits 95
+found fits k before there within = go (dec_lt k 95)
+  where
+    go : Dec (k < 95) → k ≡ first_place fits 95
+    go (yes h) = sym (first_at fits 95 k h before (there h))
+    go (no h) = let e : k ≡ 95 = omega arith in e ∙ sym (first-none fits 95 (rw e at before))
 
 -- the search from the turn has come to a free place
 pub free_found : (desk : Desk) (clock k : ℕ) → k < 95 → ((i : ℕ) → i < k → is_free clock (ticket_at desk (place_from desk.turn i)) ≡ false)

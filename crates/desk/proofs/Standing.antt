@@ -41,11 +41,10 @@ pub standing_at : (marks : Marks) (tickets : List Ticket) (place : ℕ) → plac
 standing_at marks tickets place h =
     standing_from_lem 0 marks tickets place h ∙ ap (λ (j : ℕ). live_as (is_marked marks j) (get_or tickets place no_ticket)) (zero-add place)
 
--- what is told of a ticket that was taken by its mark is told of what stands there
-pub told_standing : (desk : Desk) (tells : Ticket → Bool) (place : ℕ) (ticket : Ticket) (r : Bool) → length desk.tickets ≡ 95 → place < 95
-    → ticket ≡ live_as (is_marked desk.marks place) (get_or desk.tickets place no_ticket) → r ≡ tells ticket → tells (ticket_at desk place) ≡ r
-told_standing desk tells place ticket r places h is told =
-    ap tells (standing_at desk.marks desk.tickets place (omega arith) ∙ sym is) ∙ sym told
+-- a ticket that was taken by its mark is the one that stands there
+pub standing_is : (desk : Desk) (place : ℕ) (ticket : Ticket) → length desk.tickets ≡ 95 → place < 95
+    → ticket ≡ live_as (is_marked desk.marks place) (get_or desk.tickets place no_ticket) → ticket_at desk place ≡ ticket
+standing_is desk place ticket places h is = standing_at desk.marks desk.tickets place (omega arith) ∙ sym is
 
 -- only the marks of its places are looked at
 standing_alike : (k : ℕ) (a b : Marks) (tickets : List Ticket) → ((i : ℕ) → i < length tickets → is_marked a (k + i) ≡ is_marked b (k + i))

@@ -2,14 +2,14 @@
 // on the one ticket that is open on its address, or refused. specs/ says what each call answers.
 #![tactic(auto)]
 
-ghost use Rattle.desk.specs.Desk.{Fresh, Looks, Numbers, Places, Stands, live_as, stored_at, put_at};
+ghost use Rattle.desk.specs.Desk.{Fresh, Looks, Numbers, Places, Stands, live_as, stored_at, put_at, ticket_at};
 ghost use Rattle.marks.specs.Marks.{is_marked};
 ghost use Rattle.desk.specs.Folder.{holder_place, is_folder_held};
 ghost use Rattle.desk.specs.Open.{Opens, PassesBy, PlacesAt, distance_of, with_ticket};
 ghost use Rattle.desk.specs.Reply.{Replies, answered_on};
 ghost use Rattle.desk.specs.Close.{Cancels, Expires, Withdraws, due_place, is_theirs};
 ghost use Rattle.ticket.specs.Ticket.{withdrawn_at};
-ghost use Rattle.std.specs.Prelude.{◌≡◌, ◌≢◌, ◌≤◌, ◌<◌, length};
+ghost use Rattle.std.specs.Prelude.{◌≡◌, ◌≢◌, ◌≤◌, ◌<◌, ℕ, false, true, length};
 
 use marks::Marks;
 pub use request::Request;
@@ -359,6 +359,7 @@ fn free_distance(desk: Desk, clock: u32) -> u8
     let marks = desk.marks;
     let turn = desk.turn as usize;
     let mut k: u8 = 0;
+    // jumps by runs of marks, which no range does
     while k < 95 {
         let at = (turn + k as usize) % 95;
         let passed = passed_by(marks, desk.tickets[at], at as u8, clock);
@@ -394,32 +395,29 @@ fn passed_by(marks: Marks, ticket: Ticket, place: u8, clock: u32) -> u8
 fn due_place(desk: Desk, clock: u32) -> u8
     ensures { result ≡ due_place desk clock }
 {
-    let marks = desk.marks;
-    let mut k: u8 = 0;
-    while k < 95 {
-        let at = k as usize;
-        if ticket::is_due(as_marked(desk.tickets[at], marks, k), clock) {
-            return k;
-        }
-        k += 1;
-    }
-    k
+    place_where(&desk, |ticket| ticket::is_due(ticket, clock))
 }
 
 // The lowest place whose ticket keeps the job off the folder; 95 where there is none.
 fn holder_place(desk: Desk, job: u32, folder: u32) -> u8
     ensures { result ≡ holder_place desk job folder }
 {
-    let marks = desk.marks;
-    let mut k: u8 = 0;
-    while k < 95 {
-        let at = k as usize;
-        if ticket::bars(as_marked(desk.tickets[at], marks, k), job, folder) {
+    place_where(&desk, |ticket| ticket::bars(ticket, job, folder))
+}
+
+// The lowest place where the test holds of the ticket that stands there; 95 where there is none.
+fn place_where<F: Fn(Ticket) -> bool>(desk: &Desk, holds: F) -> u8
+    requires { F.IsAlwaysCallable holds }
+    ensures before { (k : ℕ) → k < result → F.post holds (ticket_at desk.now k) false }
+    ensures there { result < 95 → F.post holds (ticket_at desk.now result) true }
+    ensures within { result ≤ 95 }
+{
+    for k in 0..95 {
+        if holds(as_marked(desk.tickets[k as usize], desk.marks, k)) {
             return k;
         }
-        k += 1;
     }
-    k
+    95
 }
 
 // The ticket stands at the place, and the turn moves to the place after it.
