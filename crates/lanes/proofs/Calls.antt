@@ -5,11 +5,12 @@ use mathlib.Core.Bool.{Bool, true, false}
 use mathlib.Core.List.{List}
 use mathlib.Core.Logic.{◌≢◌}
 use mathlib.Core.Option.{some, none}
-use Prim.Native.Nat.{ℕ, ◌+◌, ◌-◌, ◌≤◌, ◌<◌}
+use Prim.Native.Nat.{ℕ, ◌+◌, ◌-◌, ◌%◌, ◌≤◌, ◌<◌}
+use native.Mathlib.Decide.{dec_lt}
 use native.Mathlib.Omega.{arith}
 use borrow.Author.Tests.{lt-ltb, le-ltb, lt-leb, le-leb, eq-eqb, ne_eqb}
 use lib.ListN.{length}
-use Rattle.first.proofs.Laws.{first-none}
+use Rattle.first.proofs.Laws.{first-none, first_at}
 use Rattle.first.specs.First.{first_place}
 use Rattle.request.specs.Request.{ask_refusal}
 use Rattle.request.specs.declared.Fault.{Fault as Asked}
@@ -33,9 +34,21 @@ use Rattle.lanes.specs.declared.Lane.{Lane}
 use Rattle.lanes.specs.declared.Lanes.{Lanes}
 use Rattle.lanes.specs.declared.Withdrawing.TheVariants.{Done}
 
--- a search that has passed all 16 lanes
-pub end_none : (fits : ℕ → Bool) (k : ℕ) → k ≤ 16 → 16 ≤ k → ((i : ℕ) → i < k → fits i ≡ false) → k ≡ first_place fits 16
-end_none fits k below above before = let e : k ≡ 16 = omega arith in e ∙ sym (first-none fits 16 (rw e at before))
+-- a search over all 16 lanes
+pub found : (fits : ℕ → Bool) (k : ℕ) → ((i : ℕ) → i < k → fits i ≡ false) → (k < 16 → fits k ≡ true) → k ≤ 16 → k ≡ first_place fits 16
+found fits k before there within = go (dec_lt k 16)
+  where
+    go : Dec (k < 16) → k ≡ first_place fits 16
+    go (yes h) = sym (first_at fits 16 k h before (there h))
+    go (no h) = let e : k ≡ 16 = omega arith in e ∙ sym (first-none fits 16 (rw e at before))
+
+-- one from the first lane on
+pub found_whole : (fits : ℕ → Bool) (k : ℕ) → ((i : ℕ) → i < k → fits ((0 + i) % 16) ≡ false) → (k < 16 → fits ((0 + k) % 16) ≡ true) → k ≤ 16
+    → k ≡ first_place fits 16
+found_whole fits k before there within = found fits k (λ i l. ap fits (whole i (omega arith)) ∙ before i l) (λ l. ap fits (whole k l) ∙ there l) within
+  where
+    whole : (i : ℕ) → i < 16 → i ≡ (0 + i) % 16
+    whole i l = omega arith
 
 -- ---- joining
 

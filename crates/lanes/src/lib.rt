@@ -8,7 +8,7 @@ ghost use Rattle.lanes.specs.Lanes.{own_lane, empty_lane};
 ghost use Rattle.lanes.specs.Join.{Joins, JoinsAt, NotJoined, lane_for};
 ghost use Rattle.lanes.specs.Grant.{Grants, Serves, NotGranted, OpensWith, OpensWaiting, next_distance, takes_out, moves_on, served_from, from_desk};
 ghost use Rattle.lanes.specs.Withdraw.{Withdraws, NotWithdrawn};
-ghost use Rattle.std.specs.Prelude.{◌≡◌, not, ◌≤◌, ◌<◌, length};
+ghost use Rattle.std.specs.Prelude.{◌≡◌, not, ◌+◌, ◌%◌, ◌≤◌, ◌<◌, ℕ, false, true, length};
 
 use desk::{AfterOpen, Opening};
 pub use desk::{Desk, Request};
@@ -356,30 +356,14 @@ fn not_withdrawn(lanes: Lanes) -> AfterWithdraw
 fn own_lane(lanes: Lanes, job: u32) -> u8
     ensures { result ≡ own_lane lanes job }
 {
-    let mut k: u8 = 0;
-    while k < 16 {
-        let place = k as usize;
-        if is_theirs(lanes.lanes[place], job) {
-            return k;
-        }
-        k += 1;
-    }
-    k
+    distance_to(&lanes, 0, |lane| is_theirs(lane, job))
 }
 
 // The lowest place of an empty lane; 16 where there is none.
 fn empty_lane(lanes: Lanes) -> u8
     ensures { result ≡ empty_lane lanes }
 {
-    let mut k: u8 = 0;
-    while k < 16 {
-        let place = k as usize;
-        if is_empty(lanes.lanes[place]) {
-            return k;
-        }
-        k += 1;
-    }
-    k
+    distance_to(&lanes, 0, is_empty)
 }
 
 // How far behind the lane last served the next one is in which something waits; 16 where nothing does.
@@ -387,15 +371,22 @@ fn next_distance(lanes: Lanes) -> u8
     ensures { result ≡ next_distance lanes }
 {
     let last = lanes.last as usize;
-    let mut k: u8 = 0;
-    while k < 16 {
-        let place = (last + 1 + k as usize) % 16;
-        if is_waited_in(lanes.lanes[place]) {
+    distance_to(&lanes, last + 1, is_waited_in)
+}
+
+// How far from a place, going round, the first lane is for which the test holds; 16 where there is none.
+fn distance_to<F: Fn(Lane) -> bool>(lanes: &Lanes, from: usize, holds: F) -> u8
+    requires { (from ≤ 256) × F.IsAlwaysCallable holds }
+    ensures before { (k : ℕ) → k < result → F.post holds (lane_at lanes.now ((from + k) % 16)) false }
+    ensures there { result < 16 → F.post holds (lane_at lanes.now ((from + result) % 16)) true }
+    ensures within { result ≤ 16 }
+{
+    for k in 0..16 {
+        if holds(lanes.lanes[(from + k as usize) % 16]) {
             return k;
         }
-        k += 1;
     }
-    k
+    16
 }
 
 fn lane_at(lanes: Lanes, place: u8) -> Lane
