@@ -23,13 +23,11 @@ pub fn expire_all(desk: Desk, clock: u32, list: &mut [u32]) -> Swept
 {
     let room = list.len() / 3;
     let mut swept = Swept { desk, count: 0 };
-    let mut k: u8 = 0;
-    while k < 95 {
+    for k in 0..95 {
         if room <= swept.count {
             return swept;
         }
         swept = look_at(swept, k, clock, list);
-        k += 1;
     }
     swept
 }
