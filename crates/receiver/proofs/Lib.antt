@@ -1,3 +1,4 @@
+pub mod Next
 pub mod Kept
 pub mod Stretches
 pub mod Returns

@@ -9,14 +9,10 @@ use frame::{END, START};
 pub(crate) fn next_start(bytes: &[u8]) -> usize
     ensures { (result ≡ to_next is_start bytes.now) × (result ≤ length bytes.now) }
 {
-    let mut i = 0;
-    while i < bytes.len() {
-        if bytes[i] == START {
-            return i;
-        }
-        i += 1;
-    }
-    i
+    bytes
+        .iter()
+        .position(|byte| *byte == START)
+        .unwrap_or(bytes.len())
 }
 
 // The place of the next 10 or 13, from a place on.
@@ -24,14 +20,11 @@ pub(crate) fn next_end(bytes: &[u8], from: usize) -> usize
     requires { from ≤ length bytes.now }
     ensures { (result ≡ from + to_next is_end (drop from bytes.now)) × (result ≤ length bytes.now) }
 {
-    let mut i = from;
-    while i < bytes.len() {
-        if is_end(bytes[i]) {
-            return i;
-        }
-        i += 1;
-    }
-    i
+    let rest = &bytes[from..];
+    from + rest
+        .iter()
+        .position(|byte| is_end(*byte))
+        .unwrap_or(rest.len())
 }
 
 fn is_end(byte: u8) -> bool
