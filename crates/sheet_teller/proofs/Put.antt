@@ -4,7 +4,6 @@ use mathlib.Core.Path.{◌≡◌, refl, sym, ap, ap₂, ◌∙◌}
 use mathlib.Core.Bool.{cond}
 use mathlib.Core.List.{List, [], ◌∷◌, ◌++◌, append_assoc}
 use Prim.Native.Nat.{ℕ, suc, ◌+◌, ◌-◌, ◌*◌, ◌/◌, ◌%◌, ◌≤◌, ◌<◌}
-use native.Mathlib.Nat.{sub-zero}
 use native.Mathlib.Decide.{dec_le}
 use native.Mathlib.Omega.{arith}
 use borrow.Author.Tests.{lt-ltb, le-ltb, le-leb, lt-leb}
@@ -125,9 +124,6 @@ zeros_none : (n i : ℕ) → n ≤ i → replicate {A = ℕ} (n - i) 48 ≡ []
 zeros_none n i h =
     let m : n - i ≡ 0 = omega arith in
     ap (λ (k : ℕ). replicate {A = ℕ} k 48) m
-
-pub zeros_start : (n at : ℕ) (room : List ℕ) → over_at at (replicate (n - 0) 48) room ≡ over_at at (replicate n 48) room
-zeros_start n at room = ap (λ (k : ℕ). over_at at (replicate k 48) room) (sub-zero n)
 
 pub zeros_on : (n to i : ℕ) (room room' : List ℕ) {whole : List ℕ} → i < n → room' ≡ over_at to (48 ∷ []) room
     → over_at to (replicate (n - i) 48) room ≡ whole → over_at (to + 1) (replicate (n - (i + 1)) 48) room' ≡ whole

@@ -99,13 +99,11 @@ fn lay_all(sheet: &[u8], n: usize, form: Form, room: &mut [u8]) -> usize
     let rows = &sheet[HEADER..end];
     let mut from = end;
     let mut to = 0;
-    let mut k = 0;
-    while k < n {
+    for k in 0..n {
         let head = setting::head_at(rows, k);
         let next = from + setting::measure(head);
         to = pieces::piece_at(form, head, &sheet[from..next], room, to);
         from = next;
-        k += 1;
     }
     to
 }

@@ -97,15 +97,9 @@ fn hex_at(bytes: &[u8], room: &mut [u8], at: usize) -> usize
     ensures { Puts (hex_of bytes.now) at room.old result room.new × (result ≤ at + 480) }
 {
     let mut to = at;
-    let mut i = 0;
-    while i < bytes.len() {
-        lent::lay_at(
-            &[hex_digit(bytes[i] / 16), hex_digit(bytes[i] % 16)],
-            room,
-            to,
-        );
+    for byte in bytes {
+        lent::lay_at(&[hex_digit(*byte / 16), hex_digit(*byte % 16)], room, to);
         to += 2;
-        i += 1;
     }
     to
 }
@@ -122,12 +116,8 @@ fn zeros_at(n: usize, room: &mut [u8], at: usize) -> usize
     requires { (at ≤ 1010000) × (n ≤ 1000) }
     ensures { Puts (replicate n 48) at room.old result room.new }
 {
-    let mut to = at;
-    let mut i = 0;
-    while i < n {
-        lent::lay_at(b"0", room, to);
-        to += 1;
-        i += 1;
+    for i in 0..n {
+        lent::lay_at(b"0", room, at + i);
     }
-    to
+    at + n
 }
