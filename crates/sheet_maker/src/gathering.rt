@@ -1,7 +1,7 @@
 // The settings of a text gathered, line by line, as rows and values; what is wrong goes into a list.
-ghost use Rattle.std.specs.Prelude.{◌≡◌, [], ◌∷◌, length, take, drop, ℕ, ◌+◌, ◌-◌, ◌*◌, ◌≤◌, ◌<◌};
+ghost use Rattle.std.specs.Prelude.{◌≡◌, [], ◌∷◌, length, ℕ, ◌*◌, ◌≤◌, ◌<◌};
 ghost use Rattle.setting.specs.Setting.{setting};
-ghost use Rattle.sheet_maker.specs.Maker.{lines_of, said, setting_of};
+ghost use Rattle.sheet_maker.specs.Maker.{said, setting_of};
 ghost use Rattle.sheet_maker.specs.Gathering.{Tells, Reported, Put, Ready, Taken, Gathered};
 
 use setting::{Head, MOST, ROW};
@@ -40,33 +40,11 @@ pub(crate) fn gather(text: &[u8], rows: &mut [u8], values: &mut [u8], list: &mut
         told: 0,
     };
     let mut number: u64 = 0;
-    let mut at = 0;
-    loop {
-        let end = line_end(text, at);
+    for line in text.split(|byte| *byte == b'\n') {
         number += 1;
-        page = take_line(page, number, &text[at..end], rows, values, list);
-        if text.len() <= end {
-            return page;
-        }
-        at = end + 1;
+        page = take_line(page, number, line, rows, values, list);
     }
-}
-
-// The first newline from a place on.
-fn line_end(text: &[u8], at: usize) -> usize
-    requires { at ≤ length text.now }
-    ensures in_text { (at ≤ result) × (result ≤ length text.now) }
-    ensures line_ended { result < length text.now → lines_of (drop at text.now) ≡ take (result - at) (drop at text.now) ∷ lines_of (drop (result + 1) text.now) }
-    ensures last_line { length text.now ≤ result → lines_of (drop at text.now) ≡ take (result - at) (drop at text.now) ∷ [] }
-{
-    let mut i = at;
-    while i < text.len() {
-        if text[i] == b'\n' {
-            return i;
-        }
-        i += 1;
-    }
-    i
+    page
 }
 
 // Takes the line of that number.

@@ -133,14 +133,9 @@ fn first_of(rows: &[u8], unit: u8, register: u8) -> usize
     ensures { result ≡ first_place (is_key unit register (heads rows.now)) (rows_in rows.now) }
 {
     let n = rows.len() / ROW;
-    let mut k = 0;
-    while k < n {
-        if is_of(setting::head_at(rows, k), unit, register) {
-            return k;
-        }
-        k += 1;
-    }
-    n
+    (0..n)
+        .find(|k| is_of(setting::head_at(rows, *k), unit, register))
+        .unwrap_or(n)
 }
 
 fn is_of(head: Head, unit: u8, register: u8) -> bool
