@@ -69,6 +69,7 @@ fn fill(listing: Listing, chunk: &[u8], room: &mut [u8]) -> Listed
     let mut so_far = listing;
     let mut taken = 0;
     let mut size = 0;
+    // jumps by what a step of the receiver takes, which no range does
     while taken < chunk.len() {
         if room.len() - size < LONGEST_LINE {
             return done(so_far, taken, size);
