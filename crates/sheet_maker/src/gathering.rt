@@ -39,9 +39,8 @@ pub(crate) fn gather(text: &[u8], rows: &mut [u8], values: &mut [u8], list: &mut
         wrong: 0,
         told: 0,
     };
-    let mut number: u64 = 0;
-    for line in text.split(|byte| *byte == b'\n') {
-        number += 1;
+    for (index, line) in text.split(|byte| *byte == b'\n').enumerate() {
+        let number = index as u64 + 1;
         page = take_line(page, number, line, rows, values, list);
     }
     page
