@@ -91,12 +91,11 @@ pub fn signed(w: Words, line: &[u8]) -> Words {
 // Takes the next word as bytes, into the room's first places. `value` is how many there are.
 pub fn bytes(w: Words, line: &[u8], room: &mut [u8]) -> Words {
     let next = word(w, line);
-    let from = next.from;
-    let to = next.to;
-    if is_dash(taken(next, line)) {
+    let word = taken(next, line);
+    if is_dash(word) {
         return next;
     }
-    let count = unhex(line, from, to, room);
+    let count = unhex(word, room);
     if count < NO_BYTES {
         with_value(next, count)
     } else {
@@ -162,14 +161,13 @@ pub fn count(value: u64, space: &[u8]) -> usize
 pub fn seek(bytes: &[u8], from: usize, byte: u8) -> usize
     ensures { (from ≤ result) × (result ≤ max from (length bytes.now)) }
 {
-    let mut to = from;
-    while to < bytes.len() {
-        if bytes[to] == byte {
-            return to;
-        }
-        to += 1;
+    let Some(rest) = bytes.get(from..) else {
+        return from;
+    };
+    match rest.iter().position(|b| *b == byte) {
+        Some(ahead) => from + ahead,
+        None => bytes.len(),
     }
-    to
 }
 
 fn bad(w: Words) -> Words {
@@ -195,23 +193,20 @@ fn starts_with_minus(w: Words, line: &[u8]) -> bool {
 
 // The decimal number from a place to the word's end, as its value.
 fn digits(w: Words, line: &[u8], from: usize, most: u64) -> Words {
-    let to = w.to;
-    if to <= from {
+    let Some(word) = line.get(from..w.to) else {
+        return bad(w);
+    };
+    if word.is_empty() {
         return bad(w);
     }
     let mut value: u64 = 0;
-    let mut i = from;
-    while i < to {
-        if line.len() <= i {
-            return bad(w);
-        }
-        let d = digit(line[i]);
+    for byte in word {
+        let d = digit(*byte);
         if fits(value, d, most) {
             value = value * 10 + d;
         } else {
             return bad(w);
         }
-        i += 1;
     }
     with_value(w, value)
 }
@@ -242,33 +237,29 @@ fn fits(value: u64, d: u64, most: u64) -> bool
 
 // The bytes that pairs of hex digits stand for, into the room's first places; how many, or
 // `NO_BYTES` where it is no such text or there is no room.
-fn unhex(line: &[u8], from: usize, to: usize, room: &mut [u8]) -> u64 {
-    if line.len() < to {
+fn unhex(word: &[u8], room: &mut [u8]) -> u64 {
+    let (pairs, odd) = word.as_chunks::<2>();
+    if !odd.is_empty() {
         return NO_BYTES;
     }
-    let mut i = from;
-    let mut n: u64 = 0;
-    while i < to {
-        if to - i < 2 {
-            return NO_BYTES;
-        }
-        let high = nibble(line[i]);
-        let low = nibble(line[i + 1]);
-        let at = n as usize;
+    if pairs.is_empty() {
+        return NO_BYTES;
+    }
+    if room.len() < pairs.len() {
+        return NO_BYTES;
+    }
+    for (place, pair) in room.iter_mut().zip(pairs) {
+        let high = nibble(pair[0]);
+        let low = nibble(pair[1]);
         if 15 < high {
             return NO_BYTES;
         }
         if 15 < low {
             return NO_BYTES;
         }
-        if room.len() <= at {
-            return NO_BYTES;
-        }
-        room[at] = high * 16 + low;
-        n += 1;
-        i += 2;
+        *place = high * 16 + low;
     }
-    if n == 0 { NO_BYTES } else { n }
+    pairs.len() as u64
 }
 
 // The hex digit that a byte is, or 16.
