@@ -36,10 +36,8 @@ pub fn hex(out: &mut [u8], at: usize, bytes: &[u8]) -> usize {
         return text(out, at, b"-");
     }
     let mut to = at;
-    let mut i = 0;
-    while i < bytes.len() {
-        to = pair(out, to, bytes[i]);
-        i += 1;
+    for byte in bytes {
+        to = pair(out, to, *byte);
     }
     to
 }
@@ -70,25 +68,15 @@ pub fn ok(out: &mut [u8]) -> usize {
 // A whole answer by its form, with the next number for each `#`.
 pub fn form(out: &mut [u8], form: &[u8], numbers: &[u64]) -> usize {
     let mut at = 0;
-    let mut taken = 0;
-    let mut i = 0;
-    while i < form.len() {
-        let byte = form[i];
-        i += 1;
-        if byte == b'#' {
-            at = nth(out, at, numbers, taken);
-            taken += 1;
+    let mut left = numbers.iter();
+    for byte in form {
+        if *byte == b'#' {
+            if let Some(n) = left.next() {
+                at = number(out, at, *n);
+            }
         } else {
-            at = text(out, at, &[byte]);
+            at = text(out, at, &[*byte]);
         }
-    }
-    at
-}
-
-// The number at a place of a list.
-fn nth(out: &mut [u8], at: usize, numbers: &[u64], place: usize) -> usize {
-    if place < numbers.len() {
-        return number(out, at, numbers[place]);
     }
     at
 }
