@@ -169,16 +169,13 @@ fn dump(b: Bench, made: bool, w: Words, line: &[u8], out: &mut [u8]) -> Shown {
 // The registers by rising number, `-` for none.
 fn registers(b: Bench, out: &mut [u8], from: usize) -> usize {
     let mut at = from;
-    let mut number: u8 = 0;
-    while number < 255 {
+    for number in 0..=255 {
         at = register(b, number, out, from, at);
-        number += 1;
     }
-    let last = register(b, 255, out, from, at);
-    if last == from {
+    if at == from {
         return answers::text(out, from, b"-");
     }
-    last
+    at
 }
 
 // A register, behind a comma unless it is the first, or nothing.

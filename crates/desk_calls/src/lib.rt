@@ -258,16 +258,13 @@ fn dump(d: Desk, w: Words, line: &[u8], out: &mut [u8]) -> Told {
 // `-` for none.
 fn addresses(d: Desk, out: &mut [u8], from: usize, closed: bool) -> usize {
     let mut at = from;
-    let mut address: u8 = 161;
-    while address < 255 {
+    for address in 161..=255 {
         at = standing(d, address, out, from, at, closed);
-        address += 1;
     }
-    let last = standing(d, 255, out, from, at, closed);
-    if last == from {
+    if at == from {
         return answers::text(out, from, b"-");
     }
-    last
+    at
 }
 
 // What stands on an address: the ticket, or the clock when the last one was cancelled or expired,

@@ -31,10 +31,8 @@ fn say_byte(byte: u8) {
 }
 
 fn say_bytes(bytes: &[u8]) {
-    let mut i = 0;
-    while i < bytes.len() {
-        say_byte(bytes[i]);
-        i += 1;
+    for byte in bytes {
+        say_byte(*byte);
     }
 }
 
@@ -154,11 +152,8 @@ fn call(w: Words, line: &[u8]) -> Words {
 }
 
 fn answer_all(text: &[u8]) {
-    let mut at = 0;
-    while at < text.len() {
-        let end = words::seek(text, at, b'\n');
-        answer(&text[at..end]);
-        at = end + 1;
+    for line in text.split_inclusive(|byte| *byte == b'\n') {
+        answer(line.strip_suffix(b"\n").unwrap_or(line));
     }
 }
 
