@@ -169,25 +169,16 @@ fn dump(hall: Hall, w: Words, line: &[u8], out: &mut [u8]) -> Told {
     bad(hall, out)
 }
 
+// The lanes, with a bar between two.
 fn all(lanes: Lanes, out: &mut [u8]) -> usize {
     let mut at = answers::form(out, b"ok last=# lanes=", &[lanes.last as u64 + 1]);
-    let mut k: u8 = 0;
-    while k < 16 {
-        at = lane_at(lanes, k, out, at);
-        k += 1;
+    for (k, lane) in lanes.lanes.iter().enumerate() {
+        if 0 < k {
+            at = answers::text(out, at, b"|");
+        }
+        at = one(*lane, out, at);
     }
     at
-}
-
-// A lane, behind a bar unless it is the first.
-fn lane_at(lanes: Lanes, k: u8, out: &mut [u8], at: usize) -> usize {
-    let place = (k % 16) as usize;
-    let lane = lanes.lanes[place];
-    if k == 0 {
-        return one(lane, out, at);
-    }
-    let next = answers::text(out, at, b"|");
-    one(lane, out, next)
 }
 
 // What waits in a lane, the oldest first; `-` for nothing.
@@ -196,22 +187,11 @@ fn one(lane: Lane, out: &mut [u8], from: usize) -> usize {
         return answers::text(out, from, b"-");
     }
     let mut at = from;
-    let mut p: u8 = 0;
-    while p < 4 {
-        at = waiting_at(lane, p, out, from, at);
-        p += 1;
+    for request in lane.waiting.iter().take(lane.size as usize) {
+        let next = answers::comma(out, from, at);
+        at = waiting(*request, out, next);
     }
     at
-}
-
-// The request at a place, behind a comma unless it is the first; nothing past those that wait.
-fn waiting_at(lane: Lane, p: u8, out: &mut [u8], from: usize, at: usize) -> usize {
-    if lane.size <= p {
-        return at;
-    }
-    let place = (p % 4) as usize;
-    let next = answers::comma(out, from, at);
-    waiting(lane.waiting[place], out, next)
 }
 
 fn waiting(w: Waiting, out: &mut [u8], at: usize) -> usize {

@@ -53,15 +53,13 @@ fn numbers(entries: u64, list: &[u32]) -> usize
 
 // The entries, `.` for one that stayed; `-` for a list of none.
 fn show(list: &[u32], out: &mut [u8], from: usize) -> usize {
-    if list.len() < 3 {
+    let (entries, _) = list.as_chunks::<3>();
+    if entries.is_empty() {
         return answers::text(out, from, b"-");
     }
-    let n = list.len() / 3;
     let mut at = from;
-    let mut i = 0;
-    while i < n {
-        at = entry(list[3 * i], list[3 * i + 1], list[3 * i + 2], out, from, at);
-        i += 1;
+    for [job, address, folder] in entries {
+        at = entry(*job, *address, *folder, out, from, at);
     }
     at
 }
