@@ -177,6 +177,7 @@ fn take(l: Line, chunk: &[u8], out: &mut [u8], from: usize) -> Fed {
     };
     let mut fed = step(start, chunk, out);
     let mut before = 0;
+    // Goes on by what each step took, which no range does.
     while before < fed.taken {
         before = fed.taken;
         fed = step(fed, chunk, out);
@@ -290,10 +291,8 @@ fn end(l: Line, w: Words, line: &[u8], out: &mut [u8]) -> usize {
 // Text with something else for each newline.
 fn shown(text: &[u8], newline: &[u8], out: &mut [u8], from: usize) -> usize {
     let mut at = from;
-    let mut i = 0;
-    while i < text.len() {
-        at = byte(text[i], newline, out, at);
-        i += 1;
+    for b in text {
+        at = byte(*b, newline, out, at);
     }
     at
 }

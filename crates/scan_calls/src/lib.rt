@@ -143,10 +143,8 @@ fn is_out(address: u8, out: &mut [u8], at: usize) -> usize {
 // A letter for each turn that is over.
 fn results(scan: Scan, out: &mut [u8], from: usize) -> usize {
     let mut at = from;
-    let mut unit: u8 = 1;
-    while unit <= scan::TURNS {
+    for unit in 1..=scan::TURNS {
         at = result(scan::look(scan, unit), out, at);
-        unit += 1;
     }
     at
 }
@@ -202,12 +200,10 @@ fn told_closing(hearers: Hearers, closing: Closing) -> Hearers {
 // Of each ticket that was closed: a job, an address and a folder each, and what is no address is no
 // ticket.
 pub fn told_all(hearers: Hearers, closed: &[u32]) -> Hearers {
-    let n = closed.len() / 3;
+    let (entries, _) = closed.as_chunks::<3>();
     let mut next = hearers;
-    let mut i = 0;
-    while i < n {
-        next = told_one(next, closed[3 * i], closed[3 * i + 1], closed[3 * i + 2]);
-        i += 1;
+    for [job, address, folder] in entries {
+        next = told_one(next, *job, *address, *folder);
     }
     next
 }
