@@ -45,6 +45,7 @@ fn capture(input: Stdin, piece: &mut [u8], room: &mut [u8])
     requires { 150 ≤ length room.old }
 {
     let mut listing = lister::begin(0);
+    // Reads until the input ends, which no range knows.
     loop {
         let turn = read_on(input, listing, piece, room);
         if turn.over {
@@ -75,6 +76,7 @@ fn list(listing: Listing, piece: &[u8], room: &mut [u8]) -> Turn
 {
     let mut so_far = listing;
     let mut taken = 0;
+    // Goes on by what each room full listed, which no range does.
     while taken < piece.len() {
         let listed = lister::list(so_far, &piece[taken..], room);
         let outcome = listed.outcome;

@@ -87,11 +87,8 @@ fn take_settings(w: Words, line: &[u8], rows: &mut [u8], values: &mut [u8]) -> S
     if words::is_dash(list) {
         return settings;
     }
-    let mut from = 0;
-    while from <= list.len() {
-        let to = words::seek(list, from, b';');
-        settings = take_setting(settings, &list[from..to], rows, values);
-        from = to + 1;
+    for text in list.split(|byte| *byte == b';') {
+        settings = take_setting(settings, text, rows, values);
     }
     settings
 }
