@@ -195,21 +195,7 @@ fn calls_of(job: u64, wait: u64, clock: u64) -> Command {
 // Whether the first argument is this word.
 fn is_first(rt: HostRuntime, word: &[u8], space: &mut [u8]) -> bool {
     let size = arg(rt, 1, space);
-    same(&space[..size], word)
-}
-
-fn same(word: &[u8], other: &[u8]) -> bool {
-    if word.len() != other.len() {
-        return false;
-    }
-    let mut i = 0;
-    while i < word.len() {
-        if word[i] != other[i] {
-            return false;
-        }
-        i += 1;
-    }
-    true
+    &space[..size] == word
 }
 
 // The number that an argument is, if that is one from 0 to `most`; a larger one where it is not. It
@@ -235,6 +221,7 @@ fn read_in(rt: HostRuntime, space: &mut [u8]) -> Input
     ensures { result.size ≤ length space.new }
 {
     let mut size = 0;
+    // Reads until the input ends, which no range knows.
     while size < space.len() {
         let Ok(more) = rt.stdin().read(&mut space[size..]) else {
             say(b"unread\n");
@@ -374,18 +361,12 @@ fn refused(number: u8) {
 
 // So many bad lines; the list has three numbers for each of the first.
 fn bad_lines(list: &[u64], many: usize) {
-    let told = list.len() / 3;
-    let mut k = 0;
-    while k < told {
-        if many <= k {
-            return;
-        }
-        let at = 3 * k;
-        bad_line(list[at], list[at + 1], list[at + 2]);
-        k += 1;
+    let (lines, _) = list.as_chunks::<3>();
+    for [line, word, key] in lines.iter().take(many) {
+        bad_line(*line, *word, *key);
     }
-    if k < many {
-        count(b"more ", (many - k) as u64);
+    if lines.len() < many {
+        count(b"more ", (many - lines.len()) as u64);
     }
 }
 
