@@ -77,9 +77,8 @@ fn lend(input: Stdin, line: &mut [u8; LONGEST], out: &mut [u8; LONGEST_ANSWER]) 
 fn run(mut input: Stdin, line: &mut [u8], out: &mut [u8]) {
     let mut chunk = io::large_buffer();
     let mut gathered = next_line(nothing(), 0);
-    let mut budget: u64 = 18446744073709551615;
-    while 0 < budget {
-        budget -= 1;
+    // Reads until the input ends: no input takes so many reads.
+    for _ in 0..u64::MAX {
         let Ok(n) = input.read(&mut chunk) else {
             tell(
                 b"rehearsal: the calls could not be read further; answers written: ",
@@ -139,11 +138,11 @@ fn next_line(made: Made, answered: u64) -> Gathered {
 // Answers every line that ends in the chunk, and gathers the one that does not.
 fn feed(chunk: &[u8], line: &mut [u8], out: &mut [u8], before: Gathered) -> Gathered {
     let mut gathered = before;
-    let mut from = 0;
-    while from < chunk.len() {
-        let to = words::seek(chunk, from, b'\n');
-        gathered = piece(&chunk[from..to], to < chunk.len(), line, out, gathered);
-        from = to + 1;
+    for part in chunk.split_inclusive(|byte| *byte == b'\n') {
+        gathered = match part.strip_suffix(b"\n") {
+            Some(ended) => piece(ended, true, line, out, gathered),
+            None => piece(part, false, line, out, gathered),
+        };
     }
     gathered
 }
