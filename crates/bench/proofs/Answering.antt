@@ -1,5 +1,6 @@
 -- From a telegram that was read to the reply, or to silence.
 -- Assumes nothing.
+use Rattle.std.specs.Prelude.{Ok, Err}
 use mathlib.Core.Path.{◌≡◌, refl, sym, ap, ◌∙◌}
 use mathlib.Core.Bool.{Bool, true, false, cond}
 use mathlib.Core.List.{List}
@@ -18,8 +19,8 @@ use Rattle.telegram.proofs.Judge.{reading_refused, reading_telegram, telegram_fa
 use Rattle.telegram.proofs.Laws.{accepted_framed}
 use Rattle.telegram.specs.Read.{read_rows, read_refusal, room_after, HasZeroAddress, fields_of, data_of, read_frame, why_not, fields_in, data_in}
 use Rattle.telegram.specs.Write.{telegram_for, Writes, write_refusal, write_answer}
-use Rattle.telegram.specs.declared.Writing.{Writing}
-use Rattle.telegram.specs.declared.Reading.{Reading}
+use Rattle.telegram.specs.Answers.{Writing}
+use Rattle.telegram.specs.Answers.{Reading}
 use Rattle.telegram.proofs.Ranking.{read_ranked}
 use Rattle.values.proofs.Bytes.{length-bytes_of}
 use Rattle.values.specs.Values.{bytes_of}
@@ -31,15 +32,12 @@ use Rattle.bench.specs.Take.{deed_of, reply_for, reply_of, is_answer, request_re
 use Rattle.bench.specs.declared.Fault.TheVariants.{NoRoom, Unread, OtherAddress, NotARequest}
 use Rattle.bench.specs.declared.Bench.{Bench}
 use Rattle.bench.specs.declared.Fault.{Fault}
-use Rattle.bench.specs.declared.Taking.TheVariants.{Answered, Silent}
 use Rattle.deeds.specs.declared.Deed.{Deed}
 use Rattle.bench.specs.declared.AfterTake.{AfterTake}
 use Rattle.telegram.specs.declared.Fault.TheVariants as unwritten
-use Rattle.telegram.specs.declared.Writing.TheVariants as writing
-use Rattle.telegram.specs.declared.Reading.TheVariants as reading
 
 pub silenced : (o : Option Fault) (f : Fault) (bench after : Bench) (reply room : List ℕ) (r : AfterTake) → o ≡ some f
-    → (r.answer ≡ Silent f) × (r.bench ≡ bench) → Answers o bench after reply room r room
+    → (r.answer ≡ Err f) × (r.bench ≡ bench) → Answers o bench after reply room r room
 silenced o f bench after reply room r e g = rw e (g.0, g.1, refl)
 
 -- ---- the reply
@@ -76,24 +74,24 @@ module _ (bench : Bench) (t : Fields) (deed : Deed) (hs : t.source ≢ 0) (ha : 
   abbrev Answered_so : Bool → AfterTake → Type 0
   Answered_so short r = Answers (cond short (some NoRoom) none) bench (done_to bench t.register deed) reply room r room'
 
-  pub no_room : (w : Writing) (f : Unwritten) (r : AfterTake) → Wrote w → w ≡ writing.Refused f → (r.answer ≡ Silent NoRoom) × (r.bench ≡ bench) → Replied r
+  pub no_room : (w : Writing) (f : Unwritten) (r : AfterTake) → Wrote w → w ≡ Err f → (r.answer ≡ Err NoRoom) × (r.bench ≡ bench) → Replied r
   no_room w f r wrote is_w g = go (ltb (length room) (length reply)) (sym is_w ∙ (told w wrote).0) (told w wrote).1
     where
-      go : (b : Bool) → writing.Refused f ≡ write_answer (cond b (some unwritten.NoRoom) none) (length reply)
+      go : (b : Bool) → Err f ≡ write_answer (cond b (some unwritten.NoRoom) none) (length reply)
           → room' ≡ room_after (cond b (some unwritten.NoRoom) none) reply room → Answered_so b r
       go true a e = (g.0, g.1, e)
       go false a e = clash (cc)
 
-  pub with_room : (w : Writing) (n : ℕ) (r : AfterTake) → Wrote w → w ≡ writing.Written n → (r.answer ≡ Answered n) × (r.bench ≡ done_to bench t.register deed) → Replied r
+  pub with_room : (w : Writing) (n : ℕ) (r : AfterTake) → Wrote w → w ≡ Ok n → (r.answer ≡ Ok n) × (r.bench ≡ done_to bench t.register deed) → Replied r
   with_room w n r wrote is_w g = go (ltb (length room) (length reply)) (sym is_w ∙ (told w wrote).0) (told w wrote).1
     where
-      go : (b : Bool) → writing.Written n ≡ write_answer (cond b (some unwritten.NoRoom) none) (length reply)
+      go : (b : Bool) → Ok n ≡ write_answer (cond b (some unwritten.NoRoom) none) (length reply)
           → room' ≡ room_after (cond b (some unwritten.NoRoom) none) reply room → Answered_so b r
       go true a e = clash (cc)
       go false a e = (g.0 ∙ (cc), g.1, e)
 
   -- what the contract's room says is what the writer's says
-  pub wrote_so : length reply ≤ length room → room' ≡ over reply room → Wrote (writing.Written (length reply))
+  pub wrote_so : length reply ≤ length room → room' ≡ over reply room → Wrote (Ok (length reply))
   wrote_so h e = rw (by_room, is_reply, le-ltb (length room) (length reply) h) (refl, e)
 
 -- ---- rows 35 to 37
@@ -131,12 +129,12 @@ pub refused_up : (bench : Bench) (frame : List ℕ) (room : ℕ) (f : Unreadable
 unfolding take_refusal
 refused_up bench frame room f e = rw e
 
-pub not_read : (bench : Bench) (frame : List ℕ) (room : ℕ) (said : Reading) (f g : Unreadable) → said ≡ read_frame frame 240 → said ≡ reading.Refused f
+pub not_read : (bench : Bench) (frame : List ℕ) (room : ℕ) (said : Reading) (f g : Unreadable) → said ≡ read_frame frame 240 → said ≡ Err f
     → g ≡ why_not said → take_refusal bench frame room ≡ some (Unread g)
 not_read bench frame room said f g is refused why =
     refused_up bench frame room f (reading_refused frame 240 f (sym is ∙ refused)) ∙ ap (λ (h : Unreadable). some (Unread h)) (sym (why ∙ ap why_not refused))
 
-module _ (frame : List ℕ) (t : Fields) (read : read_frame frame 240 ≡ reading.Telegram t) where
+module _ (frame : List ℕ) (t : Fields) (read : read_frame frame 240 ≡ Ok t) where
   accepted : read_refusal frame 240 ≡ none
   accepted = (reading_telegram frame 240 t read).0
 

@@ -1,5 +1,6 @@
 -- What a request does, at the register's place.
 -- Assumes nothing.
+use Rattle.std.specs.Prelude.{Some, None}
 use mathlib.Core.Path.{◌≡◌, refl}
 use mathlib.Core.List.{List}
 use mathlib.Core.Logic.{inl}
@@ -13,8 +14,6 @@ use Rattle.bench.specs.Register.{register_at, named, is_held, found, with_value,
 use Rattle.bench.specs.Take.{deed_of, done_to}
 use Rattle.bench.proofs.Places.{found_held, found_not}
 use Rattle.bench.specs.declared.Bench.{Bench}
-use Rattle.bench.specs.declared.held.Found.TheVariants.{At, Nowhere}
-use Rattle.bench.specs.declared.Seen.TheVariants as seen
 
 -- every reply carries at most 8 bytes, and its type is 0, 3 or 8
 pub deed_small : (bench : Bench) (t : Fields) (bytes : List ℕ) → Small (deed_of bench t bytes)
@@ -27,16 +26,16 @@ deed_reply bench t bytes = either Reply (is_held bench t.register) _ _ (held_rep
 
 -- ---- where the search found the register, and where it did not
 
-module _ (bench : Bench) (number place : ℕ) (at : found bench number ≡ At place) where
-  pub seen_held : (register : Register) → register ≡ register_at bench place → Looks bench number (seen.Held register)
+module _ (bench : Bench) (number place : ℕ) (at : found bench number ≡ Some place) where
+  pub seen_held : (register : Register) → register ≡ register_at bench place → Looks bench number (Some register)
   seen_held register e = let h = found_held bench number place at in rw (h.held, e, h.where_it_is)
 
   pub done_at : (deed : Deed) (after : Bench) → after ≡ with_value bench place deed.value → after ≡ done_to bench number deed
   unfolding done_to
   done_at deed after e = let h = found_held bench number place at in rw (h.held, e, h.where_it_is)
 
-module _ (bench : Bench) (number : ℕ) (nowhere : found bench number ≡ Nowhere) where
-  pub seen_not : Looks bench number seen.NotHeld
+module _ (bench : Bench) (number : ℕ) (nowhere : found bench number ≡ None) where
+  pub seen_not : Looks bench number None
   seen_not = rw (found_not bench number nowhere)
 
   pub done_not : (deed : Deed) → bench ≡ done_to bench number deed
@@ -44,13 +43,13 @@ module _ (bench : Bench) (number : ℕ) (nowhere : found bench number ≡ Nowher
   done_not deed = rw (found_not bench number nowhere)
 
 module _ (bench : Bench) (t : Fields) (bytes : List ℕ) (deed : Deed) where
-  pub deed_held : (place : ℕ) (register : Register) → found bench t.register ≡ At place → register ≡ register_at bench place
+  pub deed_held : (place : ℕ) (register : Register) → found bench t.register ≡ Some place → register ≡ register_at bench place
       → deed ≡ held_deed register t.sort bytes → deed ≡ deed_of bench t bytes
   unfolding deed_of
   deed_held place register at r e =
       let h = found_held bench t.register place at in
       rw h.held (rw (r, h.where_it_is) at e)
 
-  pub deed_unknown : found bench t.register ≡ Nowhere → deed ≡ nack 0 → deed ≡ deed_of bench t bytes
+  pub deed_unknown : found bench t.register ≡ None → deed ≡ nack 0 → deed ≡ deed_of bench t bytes
   unfolding deed_of
   deed_unknown nowhere e = rw (found_not bench t.register nowhere) e

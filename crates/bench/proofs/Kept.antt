@@ -1,5 +1,6 @@
 -- What every call keeps of a bench, and so any sequence of calls; and what was written, read again.
 -- Assumes nothing.
+use Rattle.std.specs.Prelude.{Ok}
 use Rattle.deeds.specs.Deeds.{nack, held_deed}
 use Rattle.deeds.proofs.Laws.{deed_fits}
 use Rattle.rows.proofs.Laws.{told_true, clash}
@@ -28,7 +29,6 @@ use Rattle.values.specs.declared.Value.{Value}
 use Rattle.bench.specs.Register.{Held, no_register, empty_bench, register_at, held_count, place_of, named, is_held, with_value}
 use Rattle.bench.specs.Build.{build_answer, build_bench, IsNotAModule, make_rows, make_refusal, Makes}
 use Rattle.bench.specs.Build.{IsWrongKind, IsWrongRights, IsThere, IsFull, add_rows, add_refusal, with_register, Adds, set_refusal, Sets}
-use Rattle.bench.specs.declared.Building.TheVariants.{Done}
 use Rattle.bench.specs.Sound.{to_add, to_set, to_take, Right, Sound, Call, Calls, AfterCalls, BytesOnly}
 use Rattle.bench.proofs.Laws.{decides_held, make_ranked, add_ranked}
 use Rattle.bench.proofs.Refusals.{set_done_so}
@@ -118,11 +118,11 @@ between low high n h = elim (dec_le low n) [
   | no l ↦ absurd (h (λ w. omega (arith, w.0)))
 ]
 
-pub make_sound : (address : ℕ) {r : AfterBuild} → Makes address r → r.answer ≡ Done → Sound address r.bench
+pub make_sound : (address : ℕ) {r : AfterBuild} → Makes address r → r.answer ≡ Ok tt → Sound address r.bench
 unfolding make_rows IsNotAModule
 make_sound address p e = go (make_refusal address) (make_ranked address) (sym p.0 ∙ e) p.1
   where
-    go : (o : Option Fault) {b : Bench} → Ranked (make_rows address) o → build_answer o ≡ Done → b ≡ build_bench o (empty_bench 0) (empty_bench address) → Sound address b
+    go : (o : Option Fault) {b : Bench} → Ranked (make_rows address) o → build_answer o ≡ Ok tt → b ≡ build_bench o (empty_bench 0) (empty_bench address) → Sound address b
     go (some f) k a q = clash (cc)
     go none k a q =
         let range = between 1 160 address k.0 in
@@ -254,7 +254,7 @@ pub calls_sound : (address : ℕ) (bench : Bench) → Sound address bench → (c
 calls_sound address bench s [] after h = rw h s
 calls_sound address bench s (call ∷ calls) after h = calls_sound address h.0 (call_sound address bench s call h.0 h.1) calls after h.2
 
-pub made_sound : (address : ℕ) {r : AfterBuild} → Makes address r → r.answer ≡ Done → (calls : List Call) (after : Bench) → AfterCalls r.bench calls after
+pub made_sound : (address : ℕ) {r : AfterBuild} → Makes address r → r.answer ≡ Ok tt → (calls : List Call) (after : Bench) → AfterCalls r.bench calls after
     → Sound address after
 made_sound address p e = calls_sound address _ (make_sound address p e)
 

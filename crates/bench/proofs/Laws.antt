@@ -1,13 +1,13 @@
 -- What is promised of the bench, each law under the sentence of the paper that it keeps. The rules of a request are in Rules.antt, what
 -- every call keeps in Kept.antt.
 -- Assumes nothing.
+use Rattle.std.specs.Prelude.{Ok, Err}
 use Rattle.rows.proofs.Settled.{settled, settled_parts}
 use Rattle.rows.specs.Settled.{Settled}
 use Rattle.rows.proofs.Laws.{Decides, decides_lt, decides_le, decides_eq, decides_not, decides_or, decides_and, decides_as}
 use Rattle.rows.proofs.Laws.{ranked, ranked_append, ranked_up, ◌otherwise◌, refused_exactly, numbered, clash}
 use Rattle.rows.specs.Rows.{passed_up, raised, Row, First, Ranked, numbers_of, apart, Numbered}
 use Rattle.telegram.specs.declared.Fault.{Fault as Unreadable}
-use Rattle.telegram.specs.declared.Reading.TheVariants.{Telegram}
 use Rattle.telegram.specs.Read.{read_rows, read_refusal, IsLong, OverRoom, read_frame, fields_in, data_in}
 use Rattle.telegram.proofs.Ranking.{read_ranked}
 use Rattle.remainder.specs.Remainder.{remainder_of, combined, AlteredNearby}
@@ -38,10 +38,8 @@ use Rattle.bench.specs.Take.{reply_of, IsOtherAddress, IsNotARequest, IsNoRoom, 
 use Rattle.bench.specs.declared.Bench.{Bench}
 use Rattle.bench.specs.declared.Fault.{Fault}
 use Rattle.bench.specs.declared.Fault.TheVariants.{Unread}
-use Rattle.bench.specs.declared.Building.{Building}
-use Rattle.bench.specs.declared.Building.TheVariants.{Refused}
-use Rattle.bench.specs.declared.Taking.{Taking}
-use Rattle.bench.specs.declared.Taking.TheVariants.{Silent}
+use Rattle.bench.specs.Answers.{Building}
+use Rattle.bench.specs.Answers.{Taking}
 use Rattle.bench.specs.declared.AfterBuild.{AfterBuild}
 use Rattle.bench.specs.declared.AfterTake.{AfterTake}
 use Rattle.telegram.specs.declared.Fault.TheVariants as unread
@@ -190,35 +188,35 @@ never_6 frame e =
 
 -- ---- "It returns its number only, and every buffer, ticket and register and the desk's turn are as before."
 
-build_stays : (o : Option Fault) (before after : Bench) (f : Fault) → build_answer o ≡ Refused f → build_bench o before after ≡ before
+build_stays : (o : Option Fault) (before after : Bench) (f : Fault) → build_answer o ≡ Err f → build_bench o before after ≡ before
 build_stays none before after f e = clash (cc)
 build_stays (some g) before after f e = refl
 
-pub add_refused : (bench : Bench) (number kind rights : ℕ) {r : AfterBuild} (f : Fault) → Adds bench number kind rights r → r.answer ≡ Refused f → r.bench ≡ bench
+pub add_refused : (bench : Bench) (number kind rights : ℕ) {r : AfterBuild} (f : Fault) → Adds bench number kind rights r → r.answer ≡ Err f → r.bench ≡ bench
 add_refused bench number kind rights f p e = p.1 ∙ build_stays (add_refusal bench number kind rights) bench (with_register bench number kind rights) f (sym p.0 ∙ e)
 
-pub set_refused : (bench : Bench) (number : ℕ) (value : Value) {r : AfterBuild} (f : Fault) → Sets bench number value r → r.answer ≡ Refused f → r.bench ≡ bench
+pub set_refused : (bench : Bench) (number : ℕ) (value : Value) {r : AfterBuild} (f : Fault) → Sets bench number value r → r.answer ≡ Err f → r.bench ≡ bench
 set_refused bench number value f p e =
     p.1 ∙ build_stays (set_refusal bench number value) bench
     (with_value bench (place_of bench number) (stored_at (size_of (named bench number).kind) value)) f (sym p.0 ∙ e)
 
 -- a bench that is not made holds nothing, and no telegram is for it
-pub make_refused : (address : ℕ) {r : AfterBuild} (f : Fault) → Makes address r → r.answer ≡ Refused f → r.bench ≡ empty_bench 0
+pub make_refused : (address : ℕ) {r : AfterBuild} (f : Fault) → Makes address r → r.answer ≡ Err f → r.bench ≡ empty_bench 0
 make_refused address f p e = p.1 ∙ build_stays (make_refusal address) (empty_bench 0) (empty_bench address) f (sym p.0 ∙ e)
 
 -- "numbers 1 to 5, 7 to 9 and 35 to 37 mean silence"; "A written register is unchanged when 37 is given."
-pub silent_stays : (bench : Bench) (frame room : List ℕ) {r : AfterTake} {room' : List ℕ} (f : Fault) → Takes bench frame room r room' → r.answer ≡ Silent f
+pub silent_stays : (bench : Bench) (frame room : List ℕ) {r : AfterTake} {room' : List ℕ} (f : Fault) → Takes bench frame room r room' → r.answer ≡ Err f
     → (r.bench ≡ bench) × (room' ≡ room)
 silent_stays bench frame room f p e = go (take_refusal bench frame (length room)) _ _ _ (sym p.0 ∙ e) p.1 p.2
   where
-    go : (o : Option Fault) (reply y : List ℕ) (after : Bench) {x : List ℕ} {b : Bench} → take_answer o reply ≡ Silent f
+    go : (o : Option Fault) (reply y : List ℕ) (after : Bench) {x : List ℕ} {b : Bench} → take_answer o reply ≡ Err f
         → b ≡ take_bench o bench after → x ≡ take_room o reply y → (b ≡ bench) × (x ≡ y)
     go none reply y after a q w = clash (cc)
     go (some g) reply y after a q w = (q, w)
 
 -- "A reply is first read as a telegram; a refusal there ends the call": the refusal passed up whole and nothing changed
 pub unread_stays : (bench : Bench) (frame room : List ℕ) {r : AfterTake} {room' : List ℕ} (f : Unreadable) → read_refusal frame 240 ≡ some f
-    → Takes bench frame room r room' → (r.answer ≡ Silent (Unread f)) × (r.bench ≡ bench) × (room' ≡ room)
+    → Takes bench frame room r room' → (r.answer ≡ Err (Unread f)) × (r.bench ≡ bench) × (room' ≡ room)
 unread_stays bench frame room f e p =
     let refusal : take_refusal bench frame (length room) ≡ some (Unread f) = passed_up_lem in
     (p.0 ∙ rw refusal, p.1 ∙ rw refusal, p.2 ∙ rw refusal)
@@ -229,17 +227,17 @@ unread_stays bench frame room f e p =
 -- ---- M 3: "Take any accepted message and alter one or more bits [..]. Frame it again and offer it [..]. It is refused as a check fault" and no
 -- register of any bench changes, with any reply buffer
 
-pub altered_silent : (frame : List ℕ) (size : ℕ) (t : Fields) → read_frame frame size ≡ Telegram t
+pub altered_silent : (frame : List ℕ) (size : ℕ) (t : Fields) → read_frame frame size ≡ Ok t
     → (m : List ℕ) → length (message_of frame) ≡ length m → remainder_of (combined (message_of frame) m) ≢ 0
     → (bench : Bench) (room : List ℕ) {r : AfterTake} {room' : List ℕ} → Takes bench (framed m) room r room'
-    → (r.answer ≡ Silent (Unread unread.CheckFault)) × (r.bench ≡ bench) × (room' ≡ room)
+    → (r.answer ≡ Err (Unread unread.CheckFault)) × (r.bench ≡ bench) × (room' ≡ room)
 altered_silent frame size t e m same odd bench room p =
     unread_stays bench (framed m) room unread.CheckFault (altered_refused frame size t e m same odd 240 (omega arith)) p
 
 -- bursts within 16 neighbouring bits
-pub nearby_silent : (frame : List ℕ) (size : ℕ) (t : Fields) → read_frame frame size ≡ Telegram t → (m : List ℕ) → AlteredNearby (message_of frame) m
+pub nearby_silent : (frame : List ℕ) (size : ℕ) (t : Fields) → read_frame frame size ≡ Ok t → (m : List ℕ) → AlteredNearby (message_of frame) m
     → (bench : Bench) (room : List ℕ) {r : AfterTake} {room' : List ℕ} → Takes bench (framed m) room r room'
-    → (r.answer ≡ Silent (Unread unread.CheckFault)) × (r.bench ≡ bench) × (room' ≡ room)
+    → (r.answer ≡ Err (Unread unread.CheckFault)) × (r.bench ≡ bench) × (room' ≡ room)
 nearby_silent frame size t e m near = altered_silent frame size t e m near.same_length (burst_seen (combined (message_of frame) m) (nearby_burst near))
 
 -- ---- "Show that any two outcomes allowed by it are equal."

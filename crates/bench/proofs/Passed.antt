@@ -1,5 +1,6 @@
 -- 02, #105: "All that pass the reader's answer on, bench and desk too, pass the place on": the bench's silence.
 -- Assumes nothing.
+use Rattle.std.specs.Prelude.{Ok, Err}
 use mathlib.Core.Path.{◌≡◌, refl, sym, ap, subst, ◌∙◌}
 use mathlib.Core.Bool.{Bool, true, false, cond, not}
 use mathlib.Core.List.{List}
@@ -22,8 +23,7 @@ use Rattle.bench.specs.declared.AfterTake.{AfterTake}
 use Rattle.bench.specs.declared.Bench.{Bench}
 use Rattle.bench.specs.declared.Fault.{Fault}
 use Rattle.bench.specs.declared.Fault.TheVariants.{Unread, WrongKind, WrongRights, AlreadyThere, Full, NotAModule, OtherAddress, NotARequest, NoRoom, NotHeld, DoesNotFit}
-use Rattle.bench.specs.declared.Taking.{Taking}
-use Rattle.bench.specs.declared.Taking.TheVariants.{Answered, Silent}
+use Rattle.bench.specs.Answers.{Taking}
 
 -- of the bench's refusals only the reader's has number 3
 three_unread : (f : Fault) → fault_number f ≡ 3 → (g : Unreadable) × (f ≡ Unread g)
@@ -52,7 +52,7 @@ number_of : {m n : ℕ} → ◌≡◌ {A = Option ℕ} (some m) (some n) → m �
 number_of e = cc
 
 -- the refusal of a silence
-silent_for : (o : Option Fault) (reply : List ℕ) (f : Fault) → Silent f ≡ take_answer o reply → o ≡ some f
+silent_for : (o : Option Fault) (reply : List ℕ) (f : Fault) → Err f ≡ take_answer o reply → o ≡ some f
 silent_for (some g) reply f e = cc
 silent_for none reply f e = clash (cc)
 
@@ -63,8 +63,8 @@ module _ (bench : Bench) (frame room : List ℕ) (r : AfterTake) (room' : List �
   take_place_lem told = go r.answer refl told
     where
       go : (a : Taking) → r.answer ≡ a → take_told a ≡ some 3 → FirstFaulty frame (take_place a)
-      go (Answered n) is e = clash (cc)
-      go (Silent f) is e =
+      go (Ok n) is e = clash (cc)
+      go (Err f) is e =
           let u = three_unread f (number_of e) in
           let refusal : take_refusal bench frame (length room) ≡ some (Unread u.0) =
           silent_for (take_refusal bench frame (length room)) _ f (sym is ∙ takes.0) ∙ ap some u.1 in
@@ -73,7 +73,7 @@ module _ (bench : Bench) (frame room : List ℕ) (r : AfterTake) (room' : List �
           (ltb (length room) (length (reply_of bench (fields_in frame) (data_in frame)))) u.0 refusal) (sym (ap fault_number u.1) ∙ number_of e))
 
   -- and the call `place` tells it
-  pub take-told_place : (f : Fault) (place : ℕ) → r.answer ≡ Silent f → fault_number f ≡ 3 → Places f place → FirstFaulty frame place
+  pub take-told_place : (f : Fault) (place : ℕ) → r.answer ≡ Err f → fault_number f ≡ 3 → Places f place → FirstFaulty frame place
   take-told_place f place is number told =
       subst (FirstFaulty frame) (sym told) (subst (λ (a : Taking). take_told a ≡ some 3 → FirstFaulty frame (take_place a)) is take_place_lem (ap some number))
 
@@ -92,8 +92,8 @@ fault_unplaced NotHeld other = refl
 fault_unplaced DoesNotFit other = refl
 
 pub take_no_place : (a : Taking) → take_told a ≢ some 3 → take_place a ≡ 0
-take_no_place (Answered n) other = refl
-take_no_place (Silent f) other = fault_unplaced f (λ e. other (ap some e))
+take_no_place (Ok n) other = refl
+take_no_place (Err f) other = fault_unplaced f (λ e. other (ap some e))
 
 -- the call `place` gives the place that these laws speak of
 pub place_is : (f : Fault) (r : ℕ) → Places f r → r ≡ fault_place f

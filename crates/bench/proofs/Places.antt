@@ -16,8 +16,7 @@ use Rattle.rows.proofs.Laws.{clash}
 use Rattle.deeds.specs.declared.Register.{Register}
 use Rattle.bench.specs.Register.{no_register, register_at, held_count, place_of, is_held, found_at, found}
 use Rattle.bench.specs.declared.Bench.{Bench}
-use Rattle.bench.specs.declared.held.Found.{Found}
-use Rattle.bench.specs.declared.held.Found.TheVariants.{At, Nowhere}
+use Rattle.bench.specs.Answers.{Found}
 
 -- ---- the search: a register is held at the first place that has its number
 
@@ -39,14 +38,10 @@ place_found bench number n e h =
     many : length (take n bench.registers) ≡ n
     many = omega (arith, length-take n bench.registers, h)
 
--- what is answered of what a search of the registers held found
-abbrev pub answer_of : Option ℕ → Found
-answer_of (Some place) = At place
-answer_of None = Nowhere
-
+-- what a search of the registers held found
 pub answered : (bench : Bench) (number n : ℕ) → n ≡ held_count bench → n ≤ length bench.registers → {o : Option ℕ}
-    → o ≡ position (is_numbered number) (take n bench.registers) → answer_of o ≡ found bench number
-answered bench number n e h is = ap answer_of (is ∙ plainly) ∙ go (is_held bench number)
+    → o ≡ position (is_numbered number) (take n bench.registers) → o ≡ found bench number
+answered bench number n e h is = is ∙ plainly ∙ go (is_held bench number)
   where
     many : length (take n bench.registers) ≡ held_count bench
     many = omega (arith, length-take n bench.registers, h, e)
@@ -54,7 +49,7 @@ answered bench number n e h is = ap answer_of (is ∙ plainly) ∙ go (is_held b
     plainly : position (is_numbered number) (take n bench.registers) ≡ cond (is_held bench number) (Some (place_of bench number)) None
     plainly = rw (place_found bench number n e h, many) refl
 
-    go : (b : Bool) → answer_of (cond b (Some (place_of bench number)) None) ≡ found_at b (place_of bench number)
+    go : (b : Bool) → cond b (Some (place_of bench number)) None ≡ found_at b (place_of bench number)
     go true = refl
     go false = refl
 
@@ -65,18 +60,18 @@ pub record At_its_place (bench : Bench) (number place : ℕ) : Type 0 where
   pub where_it_is : place ≡ place_of bench number
   pub under : place < 32
 
-pub found_held : (bench : Bench) (number place : ℕ) → found bench number ≡ At place → At_its_place bench number place
+pub found_held : (bench : Bench) (number place : ℕ) → found bench number ≡ Some place → At_its_place bench number place
 found_held bench number place = by_test (is_held bench number) refl
   where
-    by_test : (b : Bool) → is_held bench number ≡ b → found_at b (place_of bench number) ≡ At place → At_its_place bench number place
+    by_test : (b : Bool) → is_held bench number ≡ b → found_at b (place_of bench number) ≡ Some place → At_its_place bench number place
     by_test true h e =
         let same : place ≡ place_of bench number = cc in
         record { held = h; where_it_is = same; under = omega (arith, ltb-true (place_of bench number) (held_count bench) h) }
     by_test false h e = clash (cc)
 
-pub found_not : (bench : Bench) (number : ℕ) → found bench number ≡ Nowhere → is_held bench number ≡ false
+pub found_not : (bench : Bench) (number : ℕ) → found bench number ≡ None → is_held bench number ≡ false
 found_not bench number = by_test (is_held bench number)
   where
-    by_test : (b : Bool) → found_at b (place_of bench number) ≡ Nowhere → b ≡ false
+    by_test : (b : Bool) → found_at b (place_of bench number) ≡ None → b ≡ false
     by_test true e = clash (cc)
     by_test false e = refl

@@ -1,5 +1,6 @@
 -- What each call that builds a bench refuses, and what it hands back then.
 -- Assumes nothing.
+use Rattle.std.specs.Prelude.{Ok, Err}
 use mathlib.Core.Path.{◌≡◌, refl, sym, ap, ap₂, ◌∙◌}
 use mathlib.Core.Bool.{Bool, true, false, cond, not, ◌&&◌, true≢false}
 use mathlib.Core.Logic.{◌⊎◌, inl, inr}
@@ -8,7 +9,7 @@ use Prim.Native.Nat.{ℕ, ◌≤◌, ◌<◌}
 use native.Mathlib.Omega.{arith}
 use borrow.Author.Tests.{lt-ltb, le-ltb, le-leb, lt-leb, leb-false, not-false}
 use lib.Dec.{ltb, leb}
-use Rattle.values.specs.declared.Stored.{Stored}
+use Rattle.values.specs.Answers.{Stored}
 use Rattle.values.specs.Values.{Keeps, size_of, stored_at, stored_value, is_kind, fits, stored_refusal}
 use Rattle.values.specs.declared.Fault.{Fault as Unstored}
 use Rattle.rows.proofs.Laws.{clash, first_false}
@@ -20,22 +21,20 @@ use Rattle.bench.specs.Register.{register_at, place_of, named, is_held, with_val
 use Rattle.bench.specs.declared.Bench.{Bench}
 use Rattle.bench.specs.declared.Fault.{Fault}
 use Rattle.bench.specs.declared.Fault.TheVariants.{WrongKind, WrongRights, AlreadyThere, Full, NotAModule, NotHeld, DoesNotFit}
-use Rattle.bench.specs.declared.Building.TheVariants.{Done, Refused}
 use Rattle.bench.specs.declared.AfterBuild.{AfterBuild}
 use Rattle.bench.proofs.Places.{At_its_place}
 use Rattle.deeds.specs.declared.Register.{Register}
-use Rattle.values.specs.declared.Stored.TheVariants as stored
 use Rattle.values.specs.declared.Fault.TheVariants as values
 
-pub build_refused : (o : Option Fault) (f : Fault) (before after : Bench) (r : AfterBuild) → o ≡ some f → (r.answer ≡ Refused f) × (r.bench ≡ before)
+pub build_refused : (o : Option Fault) (f : Fault) (before after : Bench) (r : AfterBuild) → o ≡ some f → (r.answer ≡ Err f) × (r.bench ≡ before)
     → (r.answer ≡ build_answer o) × (r.bench ≡ build_bench o before after)
 build_refused o f before after r e g = rw e g
 
-pub build_done : (o : Option Fault) (before after : Bench) (r : AfterBuild) → o ≡ none → (r.answer ≡ Done) × (r.bench ≡ after)
+pub build_done : (o : Option Fault) (before after : Bench) (r : AfterBuild) → o ≡ none → (r.answer ≡ Ok tt) × (r.bench ≡ after)
     → (r.answer ≡ build_answer o) × (r.bench ≡ build_bench o before after)
 build_done o before after r e g = rw e g
 
-pub built_done : (o : Option Fault) → build_answer o ≡ Done → o ≡ none
+pub built_done : (o : Option Fault) → build_answer o ≡ Ok tt → o ≡ none
 built_done none e = refl
 built_done (some f) e = clash (cc)
 
@@ -130,16 +129,16 @@ module _ (bench : Bench) (number place : ℕ) (value : Value) (at : At_its_place
   keeps_there : kept ≡ stored_value (kind_of bench number value) value
   keeps_there = keeps ∙ ap (λ (r : Register). stored_value r.kind value) is_there_lem
 
-  pub set_refused : (f : Unstored) (r : AfterBuild) → kept ≡ stored.Refused f → (r.answer ≡ Refused DoesNotFit) × (r.bench ≡ bench) → Sets bench number value r
+  pub set_refused : (f : Unstored) (r : AfterBuild) → kept ≡ Err f → (r.answer ≡ Err DoesNotFit) × (r.bench ≡ bench) → Sets bench number value r
   set_refused f r e g =
       build_refused (set_refusal bench number value) DoesNotFit bench
       (with_value bench (place_of bench number) (stored_at (size_of (named bench number).kind) value)) r
       (set_unfit bench number value f at.held (stored_refused (kind_of bench number value) value f (sym keeps_there ∙ e))) g
 
-  pub set_done : (v : ℕ) (after : Bench) → kept ≡ stored.As v → after ≡ with_value bench place v → Sets bench number value (record { bench = after; answer = Done })
+  pub set_done : (v : ℕ) (after : Bench) → kept ≡ Ok v → after ≡ with_value bench place v → Sets bench number value (record { bench = after; answer = Ok tt })
   set_done v after e a =
       let so = stored_as (kind_of bench number value) value v (sym keeps_there ∙ e) in
       build_done (set_refusal bench number value) bench
-      (with_value bench (place_of bench number) (stored_at (size_of (named bench number).kind) value)) (record { bench = after; answer = Done })
+      (with_value bench (place_of bench number) (stored_at (size_of (named bench number).kind) value)) (record { bench = after; answer = Ok tt })
       (set_so bench number value at.held so.0)
       (refl, a ∙ ap₂ (λ (p v : ℕ). with_value bench p v) at.where_it_is so.1)

@@ -1,9 +1,11 @@
 -- The four rules of a telegram for the bench, in the paper's words, and what every reply is.
 -- Assumes nothing.
+use Rattle.bench.specs.Answers.{Taking}
+use Rattle.std.specs.Prelude.{Ok}
 use Rattle.deeds.specs.Deeds.{HasRight, nack, ack, datagram, held_deed, MayRead, MayWrite, MayChange, Small}
 use Rattle.deeds.proofs.Laws.{read_deed_lem, write_deed_lem, set_deed, clear_deed, toggle_deed, other_deed}
 use Rattle.rows.proofs.Laws.{told_true, told_false, done_exactly}
-use Rattle.telegram.specs.declared.Reading.{Reading}
+use Rattle.telegram.specs.Answers.{Reading}
 use Rattle.telegram.specs.Read.{Reads, fields_in, data_in}
 use mathlib.Core.Path.{◌≡◌, refl, sym, ◌∙◌}
 use mathlib.Core.Bool.{Bool, true, false, cond}
@@ -20,14 +22,12 @@ use Rattle.telegram.specs.Write.{telegram_for}
 use Rattle.values.proofs.Bytes.{length-bytes_of}
 use Rattle.values.specs.Values.{size_of, natural, bytes_of, set_bits, clear_bits, toggle_bits}
 use Rattle.telegram.specs.declared.Fields.{Fields}
-use Rattle.telegram.specs.declared.Reading.TheVariants.{Telegram}
 use Rattle.bench.proofs.Answering.{wrote_so, addressed}
 use Rattle.bench.proofs.Deeds.{deed_small}
 use Rattle.bench.proofs.Laws.{decides_held, request_ranked}
 use Rattle.bench.specs.Register.{Held, no_register, place_of, named, is_held, with_value}
 use Rattle.bench.specs.Take.{deed_of, reply_for, reply_of, IsOtherAddress, IsNoRoom, take_rows, request_refusal, take_refusal, done_to, Takes, Answerable, Gives}
 use Rattle.bench.specs.declared.Bench.{Bench}
-use Rattle.bench.specs.declared.Taking.TheVariants.{Answered}
 use Rattle.deeds.specs.declared.Deed.{Deed}
 use Rattle.bench.specs.declared.AfterTake.{AfterTake}
 
@@ -122,9 +122,9 @@ module _ (bench : Bench) (frame : List ℕ) (t : Fields) (room : List ℕ) (may 
         gives (nack 0) bench (rw not_there) (rw not_there)
 
     -- every reply is a telegram that the reader accepts, from the bench to the asker, with the register
-    pub reply_reads : (n : ℕ) → r.answer ≡ Answered n → (buffer : List ℕ) (a : Reading) (buffer' : List ℕ) → 8 ≤ length buffer → Reads (take n room') buffer a buffer'
+    pub reply_reads : (n : ℕ) → r.answer ≡ Ok n → (buffer : List ℕ) (a : Reading) (buffer' : List ℕ) → 8 ≤ length buffer → Reads (take n room') buffer a buffer'
         → (deed : Deed) → deed_of bench t (data_in frame) ≡ deed
-        → (a ≡ Telegram (record { destination = t.source; source = bench.address; sort = deed.sort; register = t.register; size = deed.size }))
+        → (a ≡ Ok (record { destination = t.source; source = bench.address; sort = deed.sort; register = t.register; size = deed.size }))
         × (buffer' ≡ over (bytes_of deed.size deed.value) buffer)
     unfolding reply_of reply_for
     reply_reads n e buffer a buffer' wide reads deed d =
@@ -142,5 +142,5 @@ module _ (bench : Bench) (frame : List ℕ) (t : Fields) (room : List ℕ) (may 
         (omega (arith, small.1)) reads in
         rw size at back
       where
-        answered_same : {m k : ℕ} → Answered m ≡ Answered k → m ≡ k
+        answered_same : {m k : ℕ} → ◌≡◌ {A = Taking} (Ok m) (Ok k) → m ≡ k
         answered_same q = cc

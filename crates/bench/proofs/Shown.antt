@@ -1,5 +1,6 @@
 -- Between the tester and the line: what is added or set is shown and is read by telegram, and what a telegram wrote is shown.
 -- Assumes nothing.
+use Rattle.std.specs.Prelude.{Ok, Some, None}
 use mathlib.Core.Path.{◌≡◌, sym, ap, ap₂, ◌∙◌}
 use mathlib.Core.List.{List}
 use mathlib.Core.Option.{none}
@@ -12,13 +13,11 @@ use Rattle.lent.proofs.Laws.{take-over}
 use Rattle.rows.proofs.Laws.{told_true, told_false}
 use Rattle.telegram.specs.Read.{Reads, data_in}
 use Rattle.telegram.specs.declared.Fields.{Fields}
-use Rattle.telegram.specs.declared.Reading.{Reading}
-use Rattle.telegram.specs.declared.Reading.TheVariants.{Telegram}
+use Rattle.telegram.specs.Answers.{Reading}
 use Rattle.values.proofs.Bytes.{length-bytes_of}
 use Rattle.values.proofs.Laws.{stored_means, stored_reads, reads_whole}
 use Rattle.values.specs.Values.{size_of, natural, bytes_of, stored_at, stored_refusal, read_value}
 use Rattle.values.specs.declared.Value.{Value}
-use Rattle.values.specs.declared.Reading.TheVariants.{Is}
 use Rattle.deeds.specs.Deeds.{MayRead, MayWrite, datagram}
 use Rattle.deeds.proofs.Deeds.{size_most}
 use Rattle.deeds.proofs.Laws.{read_deed_lem}
@@ -30,10 +29,7 @@ use Rattle.bench.specs.Take.{Takes, Answerable}
 use Rattle.bench.specs.declared.AfterBuild.{AfterBuild}
 use Rattle.bench.specs.declared.AfterTake.{AfterTake}
 use Rattle.bench.specs.declared.Bench.{Bench}
-use Rattle.bench.specs.declared.Building.TheVariants.{Done}
-use Rattle.bench.specs.declared.Seen.{Seen}
-use Rattle.bench.specs.declared.Seen.TheVariants as seen
-use Rattle.bench.specs.declared.Taking.TheVariants.{Answered}
+use Rattle.bench.specs.Answers.{Seen}
 use Rattle.bench.proofs.Kept.{add_sound, held_place, only_place}
 use Rattle.bench.proofs.Laws.{decides_held}
 use Rattle.bench.proofs.Refusals.{built_done, add_done_so, set_done_so}
@@ -41,16 +37,16 @@ use Rattle.bench.proofs.Rules.{held_deed_lem, reply_reads, write_rule}
 use Rattle.bench.proofs.Written.{named_after, still_held}
 
 -- what is held is shown as it is
-pub held_shown : (bench : Bench) (number : ℕ) {s : Seen} → Looks bench number s → Held bench number → s ≡ seen.Held (named bench number)
+pub held_shown : (bench : Bench) (number : ℕ) {s : Seen} → Looks bench number s → Held bench number → s ≡ Some (named bench number)
 held_shown bench number looks h = looks ∙ rw (told_true (decides_held bench number) h)
 
-pub unheld_shown : (bench : Bench) (number : ℕ) {s : Seen} → Looks bench number s → (Held bench number → ⊥) → s ≡ seen.NotHeld
+pub unheld_shown : (bench : Bench) (number : ℕ) {s : Seen} → Looks bench number s → (Held bench number → ⊥) → s ≡ None
 unheld_shown bench number looks n = looks ∙ rw (told_false (decides_held bench number) n)
 
 -- ---- "each with a kind, rights and a value, 0 when added"
 
 pub added_shown : (address : ℕ) (bench : Bench) → Sound address bench → (number kind rights : ℕ) {r : AfterBuild} → Adds bench number kind rights r
-    → r.answer ≡ Done → {s : Seen} → Looks r.bench number s → s ≡ seen.Held (record { number = number; kind = kind; rights = rights; value = 0 })
+    → r.answer ≡ Ok tt → {s : Seen} → Looks r.bench number s → s ≡ Some (record { number = number; kind = kind; rights = rights; value = 0 })
 added_shown address bench s number kind rights {r} adds done looks =
     let allowed = built_done (add_refusal bench number kind rights) (sym adds.0 ∙ done) in
     let free = add_done_so bench number kind rights allowed in
@@ -63,7 +59,7 @@ added_shown address bench s number kind rights {r} adds done looks =
     let sound = add_sound address bench s number kind rights adds in
     let place = only_place address r.bench number bench.count sound (omega (arith, count)) there in
     held_shown r.bench number looks (bench.count, omega (arith, count, free.1), there)
-    ∙ ap seen.Held (ap (register_at r.bench) place ∙ here)
+    ∙ ap Some (ap (register_at r.bench) place ∙ here)
   where
     new : Register
     new = record { number = number; kind = kind; rights = rights; value = 0 }
@@ -71,7 +67,7 @@ added_shown address bench s number kind rights {r} adds done looks =
 -- ---- "The tester may set a held register to any number of its kind, whatever the rights": then it has that number
 
 module _ (address : ℕ) (bench : Bench) (s : Sound address bench) (number : ℕ) (value : Value) {r : AfterBuild} (sets : Sets bench number value r)
-    (done : r.answer ≡ Done) where
+    (done : r.answer ≡ Ok tt) where
   abbrev kind : ℕ
   kind = (named bench number).kind
 
@@ -98,7 +94,7 @@ module _ (address : ℕ) (bench : Bench) (s : Sound address bench) (number : ℕ
   register_now = ap (λ (b : Bench). named b number) after ∙ named_after address bench s number stored held
 
   pub set_shown : {seen_so : Seen} → Looks r.bench number seen_so
-      → (register : Register) × (seen_so ≡ seen.Held register) × (register.kind ≡ kind) × (register.rights ≡ (named bench number).rights) × (meant register ≡ value)
+      → (register : Register) × (seen_so ≡ Some register) × (register.kind ≡ kind) × (register.rights ≡ (named bench number).rights) × (meant register ≡ value)
   set_shown looks = (
     named r.bench number,
     held_shown r.bench number looks still,
@@ -110,8 +106,8 @@ module _ (address : ℕ) (bench : Bench) (s : Sound address bench) (number : ℕ
   -- and whoever reads it by telegram is answered that number
   pub set_read : (frame : List ℕ) (t : Fields) (room : List ℕ) {a : AfterTake} {room' : List ℕ} → Answerable r.bench frame t (length room)
       → Takes r.bench frame room a room' → t.register ≡ number → MayRead (named bench number) t.sort (data_in frame)
-      → (n : ℕ) → a.answer ≡ Answered n → (buffer : List ℕ) (q : Reading) (buffer' : List ℕ) → 8 ≤ length buffer → Reads (take n room') buffer q buffer'
-      → (u : Fields) × (q ≡ Telegram u) × (read_value kind (take u.size buffer') 0 ≡ Is value)
+      → (n : ℕ) → a.answer ≡ Ok n → (buffer : List ℕ) (q : Reading) (buffer' : List ℕ) → 8 ≤ length buffer → Reads (take n room') buffer q buffer'
+      → (u : Fields) × (q ≡ Ok u) × (read_value kind (take u.size buffer') 0 ≡ Ok value)
   set_read frame t room may takes same reading n answered buffer q buffer' wide reads =
       let there : named r.bench t.register
       ≡ record { number = (named bench number).number; kind = kind; rights = (named bench number).rights; value = stored } =
@@ -133,7 +129,7 @@ module _ (address : ℕ) (bench : Bench) (s : Sound address bench) (number : ℕ
 pub written_shown : (address : ℕ) (bench : Bench) → Sound address bench → (frame : List ℕ) (t : Fields) (room : List ℕ)
     → Answerable bench frame t (length room) → {r : AfterTake} {room' : List ℕ} → Takes bench frame room r room'
     → Held bench t.register → MayWrite (named bench t.register) t.sort (data_in frame) → {seen_so : Seen} → Looks r.bench t.register seen_so
-    → (register : Register) × (seen_so ≡ seen.Held register) × (read_value register.kind (data_in frame) 0 ≡ Is (meant register))
+    → (register : Register) × (seen_so ≡ Some register) × (read_value register.kind (data_in frame) 0 ≡ Ok (meant register))
 written_shown address bench s frame t room may {r} takes h writes looks =
     let number = t.register in
     let wrote = (write_rule bench frame t room may takes h writes).1 in

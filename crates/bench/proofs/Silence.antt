@@ -1,5 +1,6 @@
 -- Which numbers mean silence, and what a telegram that is answered is: every reply is one that the reader accepts.
 -- Assumes nothing.
+use Rattle.std.specs.Prelude.{Ok, Err}
 use mathlib.Core.Path.{◌≡◌, refl, sym, ◌∙◌}
 use mathlib.Core.List.{List}
 use mathlib.Core.Logic.{◌⊎◌, inl, inr, ⊎_elim}
@@ -14,14 +15,12 @@ use Rattle.telegram.specs.Read.{read_refusal, read_frame, Reads, fields_in, data
 use Rattle.telegram.specs.declared.Fault.{Fault as Unreadable}
 use Rattle.telegram.specs.declared.Fault.TheVariants.{NotFramed, StrayEnd, BadSubstitution, ShortMessage, LongMessage, NoRoom, CheckFault, ZeroAddress, UnknownType}
 use Rattle.telegram.specs.declared.Fields.{Fields}
-use Rattle.telegram.specs.declared.Reading.{Reading}
-use Rattle.telegram.specs.declared.Reading.TheVariants.{Telegram}
+use Rattle.telegram.specs.Answers.{Reading}
 use Rattle.bench.specs.Register.{fault_number}
 use Rattle.bench.specs.Take.{IsOtherAddress, IsNoRoom, take_rows, request_refusal, take_refusal, take_answer, deed_of, Takes, Answerable, MeansSilence}
 use Rattle.bench.specs.declared.Bench.{Bench}
 use Rattle.bench.specs.declared.Fault.{Fault}
 use Rattle.bench.specs.declared.Fault.TheVariants.{Unread}
-use Rattle.bench.specs.declared.Taking.TheVariants.{Answered, Silent}
 use Rattle.bench.specs.declared.AfterTake.{AfterTake}
 use Rattle.bench.proofs.Deeds.{deed_reply}
 use Rattle.bench.proofs.Laws.{never_6, request_ranked}
@@ -55,13 +54,13 @@ request_number bench t bytes room f e =
 
 module _ (bench : Bench) (frame room : List ℕ) {r : AfterTake} {room' : List ℕ} (takes : Takes bench frame room r room') where
   -- these numbers, and no others
-  pub silent_number : (f : Fault) → r.answer ≡ Silent f → MeansSilence (fault_number f)
+  pub silent_number : (f : Fault) → r.answer ≡ Err f → MeansSilence (fault_number f)
   unfolding take_refusal
   silent_number f e =
       go (read_refusal frame 240) (request_refusal bench (fields_in frame) (data_in frame) (length room)) refl refl
       (told_silent (take_refusal bench frame (length room)) _ (sym takes.0 ∙ e))
     where
-      told_silent : (o : Option Fault) (reply : List ℕ) → take_answer o reply ≡ Silent f → o ≡ some f
+      told_silent : (o : Option Fault) (reply : List ℕ) → take_answer o reply ≡ Err f → o ≡ some f
       told_silent none reply q = clash (cc)
       told_silent (some g) reply q = cc
 
@@ -72,11 +71,11 @@ module _ (bench : Bench) (frame room : List ℕ) {r : AfterTake} {room' : List �
       go none p read asked q = request_number bench (fields_in frame) (data_in frame) (length room) f (asked ∙ q)
 
   -- "so number 6 doesn't arise"
-  pub take_never_6 : r.answer ≡ Silent (Unread NoRoom) → ⊥
+  pub take_never_6 : r.answer ≡ Err (Unread NoRoom) → ⊥
   take_never_6 e = ⊎_elim (λ h. omega (arith, h.1)) (λ a. ⊎_elim (λ h. omega (arith, h.0)) (λ h. omega (arith, h.0)) a) (silent_number (Unread NoRoom) e)
 
   -- what is answered was read, is for this bench, is a request, and its reply has room
-  pub answered_so : (n : ℕ) → r.answer ≡ Answered n → Answerable bench frame (fields_in frame) (length room)
+  pub answered_so : (n : ℕ) → r.answer ≡ Ok n → Answerable bench frame (fields_in frame) (length room)
   unfolding take_refusal read_frame take_rows IsOtherAddress IsNoRoom
   answered_so n e =
       let both = or-none (raised Unread (read_refusal frame 240)) (request_refusal bench (fields_in frame) (data_in frame) (length room))
@@ -86,7 +85,7 @@ module _ (bench : Bench) (frame room : List ℕ) {r : AfterTake} {room' : List �
       (request_ranked bench (fields_in frame) (data_in frame) (length room))).0 both.1 in
       record { read = rw read; ours = equal _ _ no.0; asks = no.1.0; roomy = under (length room) _ no.1.1.0 }
     where
-      told_answered : (o : Option Fault) (reply : List ℕ) → take_answer o reply ≡ Answered n → o ≡ none
+      told_answered : (o : Option Fault) (reply : List ℕ) → take_answer o reply ≡ Ok n → o ≡ none
       told_answered none reply q = refl
       told_answered (some g) reply q = clash (cc)
 
@@ -97,9 +96,9 @@ module _ (bench : Bench) (frame room : List ℕ) {r : AfterTake} {room' : List �
       under a b h = omega arith
 
   -- every reply is a telegram that the reader accepts, addressed to the asker, from the bench, with the register: a nack, an ack or a datagram
-  pub every_reply : (n : ℕ) → r.answer ≡ Answered n → (buffer : List ℕ) (a : Reading) (buffer' : List ℕ) → 8 ≤ length buffer → Reads (take n room') buffer a buffer'
-      → (t : Fields) × (read_frame frame 240 ≡ Telegram t)
-      × (u : Fields) × (a ≡ Telegram u) × (u.destination ≡ t.source) × (u.source ≡ bench.address) × (u.register ≡ t.register)
+  pub every_reply : (n : ℕ) → r.answer ≡ Ok n → (buffer : List ℕ) (a : Reading) (buffer' : List ℕ) → 8 ≤ length buffer → Reads (take n room') buffer a buffer'
+      → (t : Fields) × (read_frame frame 240 ≡ Ok t)
+      × (u : Fields) × (a ≡ Ok u) × (u.destination ≡ t.source) × (u.source ≡ bench.address) × (u.register ≡ t.register)
       × ((u.sort ≡ 0) ⊎ ((u.sort ≡ 3) ⊎ (u.sort ≡ 8)))
   every_reply n e buffer a buffer' wide reads =
       let may = answered_so n e in

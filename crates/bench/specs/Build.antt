@@ -1,6 +1,6 @@
 -- Building a bench: make it (34), add registers (30 to 33), set a held register (38, then 43).
 -- Assumes nothing.
-use Rattle.std.specs.Prelude.{◌≡◌, ◌⊎◌, not, ◌&&◌, List, [], ◌∷◌, ℕ, ◌+◌, ◌≤◌, ◌<◌, leb, ltb, set}
+use Rattle.std.specs.Prelude.{◌≡◌, ◌⊎◌, not, ◌&&◌, List, [], ◌∷◌, ℕ, ◌+◌, ◌≤◌, ◌<◌, leb, ltb, set, Ok, Err}
 use Rattle.std.proofs.Math.Option.{Option, some, none}
 use Rattle.rows.specs.Rows.{Row, row, Test, test, first_row_of}
 use Rattle.values.specs.Values.{size_of, is_kind, fits, stored_at, NoKind, Unfit}
@@ -8,20 +8,19 @@ use Rattle.values.specs.declared.Value.{Value}
 use Rattle.bench.specs.declared.Bench.{Bench}
 use Rattle.bench.specs.declared.Fault.{Fault}
 use Rattle.bench.specs.declared.Fault.TheVariants.{WrongKind, WrongRights, AlreadyThere, Full, NotAModule, NotHeld, DoesNotFit}
-use Rattle.bench.specs.declared.Building.{Building}
-use Rattle.bench.specs.declared.Building.TheVariants.{Done, Refused}
+use Rattle.bench.specs.Answers.{Building}
 use Rattle.bench.specs.declared.AfterBuild.{AfterBuild}
 use Rattle.bench.specs.Register.{empty_bench, named, place_of, Held, is_held, with_value, fault_number}
 
 -- each of the three answers so
 abbrev pub build_answer : Option Fault → Building
-build_answer (some f) = Refused f
-build_answer none = Done
+build_answer (some f) = Err f
+build_answer none = Ok tt
 
 -- the number that an answer tells, or none
 abbrev pub build_told : Building → Option ℕ
-build_told (Refused f) = some (fault_number f)
-build_told Done = none
+build_told (Err f) = some (fault_number f)
+build_told (Ok _) = none
 
 abbrev pub build_bench : Option Fault → Bench → Bench → Bench
 build_bench (some f) before after = before

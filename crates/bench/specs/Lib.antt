@@ -1,3 +1,4 @@
+pub mod Answers
 pub mod Register
 pub mod Build
 pub mod Take

@@ -1,7 +1,7 @@
 -- The bench module's registers: "one address and up to 32 registers, each with a kind, rights and a value, 0 when added."
 -- Rights, and what a request does to a register, are in deeds.
 -- Assumes nothing.
-use Rattle.std.specs.Prelude.{◌≡◌, Bool, true, false, ℕ, ◌<◌, min, eqb, ltb, get_or, replicate, set}
+use Rattle.std.specs.Prelude.{◌≡◌, Bool, true, false, ℕ, ◌<◌, min, eqb, ltb, get_or, replicate, set, Some, None}
 use Rattle.first.specs.First.{first_place}
 use Rattle.deeds.specs.declared.Register.{Register}
 use Rattle.telegram.specs.Read.{fault_number as read_number, fault_place as read_place}
@@ -10,10 +10,8 @@ use Rattle.values.specs.declared.Value.{Value}
 use Rattle.bench.specs.declared.Bench.{Bench}
 use Rattle.bench.specs.declared.Fault.{Fault}
 use Rattle.bench.specs.declared.Fault.TheVariants.{Unread, WrongKind, WrongRights, AlreadyThere, Full, NotAModule, OtherAddress, NotARequest, NoRoom, NotHeld, DoesNotFit}
-use Rattle.bench.specs.declared.Seen.{Seen}
-use Rattle.bench.specs.declared.held.Found.{Found}
-use Rattle.bench.specs.declared.held.Found.TheVariants.{At, Nowhere}
-use Rattle.bench.specs.declared.Seen.TheVariants as seen
+use Rattle.bench.specs.Answers.{Seen}
+use Rattle.bench.specs.Answers.{Found}
 
 abbrev pub no_register : Register
 no_register = record { number = 0; kind = 0; rights = 0; value = 0 }
@@ -42,8 +40,8 @@ is_held bench number = ltb (place_of bench number) (held_count bench)
 
 -- what a search for the register finds
 abbrev pub found_at : Bool → ℕ → Found
-found_at true place = At place
-found_at false place = Nowhere
+found_at true place = Some place
+found_at false place = None
 
 abbrev pub found : Bench → ℕ → Found
 found bench number = found_at (is_held bench number) (place_of bench number)
@@ -100,8 +98,8 @@ fault_place NotHeld = 0
 fault_place DoesNotFit = 0
 
 abbrev pub shown : Bool → Register → Seen
-shown true register = seen.Held register
-shown false register = seen.NotHeld
+shown true register = Some register
+shown false register = None
 
 -- ---- the contracts
 

@@ -1,21 +1,19 @@
 -- A telegram for the bench: what it does and what is answered, or which number keeps it silent.
 -- Assumes nothing.
-use Rattle.std.specs.Prelude.{◌≡◌, ◌≢◌, ◌⊎◌, Bool, cond, not, ◌||◌, List, [], ◌∷◌, ◌++◌, ℕ, ◌≤◌, ◌<◌, eqb, ltb, length}
+use Rattle.std.specs.Prelude.{◌≡◌, ◌≢◌, ◌⊎◌, Bool, cond, not, ◌||◌, List, [], ◌∷◌, ◌++◌, ℕ, ◌≤◌, ◌<◌, eqb, ltb, length, Ok, Err}
 use Rattle.std.proofs.Math.Option.{Option, some, none}
 use Rattle.lent.specs.Lent.{over}
 use Rattle.rows.specs.Rows.{Row, row, Test, test, first_row_of, or_later, passed_up, raised}
 use Rattle.telegram.specs.Read.{read_rows, read_refusal, read_frame, fields_in, data_in}
 use Rattle.telegram.specs.Write.{telegram_for}
 use Rattle.telegram.specs.declared.Fields.{Fields}
-use Rattle.telegram.specs.declared.Reading.TheVariants.{Telegram}
 use Rattle.values.specs.Values.{bytes_of}
 use Rattle.deeds.specs.Deeds.{nack, held_deed}
 use Rattle.deeds.specs.declared.Deed.{Deed}
 use Rattle.bench.specs.declared.Bench.{Bench}
 use Rattle.bench.specs.declared.Fault.{Fault}
 use Rattle.bench.specs.declared.Fault.TheVariants.{Unread, OtherAddress, NotARequest, NoRoom}
-use Rattle.bench.specs.declared.Taking.{Taking}
-use Rattle.bench.specs.declared.Taking.TheVariants.{Answered, Silent}
+use Rattle.bench.specs.Answers.{Taking}
 use Rattle.bench.specs.declared.AfterTake.{AfterTake}
 use Rattle.bench.specs.Register.{named, place_of, is_held, with_value, fault_number, fault_place}
 
@@ -79,18 +77,18 @@ take_refusal bench frame room = or_later (raised Unread (read_refusal frame 240)
 -- ---- the answer, the bench and the buffer, each from the refusal
 
 abbrev pub take_answer : Option Fault → List ℕ → Taking
-take_answer (some f) reply = Silent f
-take_answer none reply = Answered (length reply)
+take_answer (some f) reply = Err f
+take_answer none reply = Ok (length reply)
 
 -- the number that an answer tells, or none
 abbrev pub take_told : Taking → Option ℕ
-take_told (Silent f) = some (fault_number f)
-take_told (Answered n) = none
+take_told (Err f) = some (fault_number f)
+take_told (Ok n) = none
 
 -- the place that it tells, with the reader's 3; 0 for none
 abbrev pub take_place : Taking → ℕ
-take_place (Silent f) = fault_place f
-take_place (Answered n) = 0
+take_place (Err f) = fault_place f
+take_place (Ok n) = 0
 
 -- the register's value afterwards; where the register is not held, nothing changes
 unfoldable pub done_to : Bench → ℕ → Deed → Bench
@@ -125,7 +123,7 @@ Takes bench frame room r room' =
 
 -- it was read, it is for this bench, it is a request, and there is room for the reply
 pub record Answerable (bench : Bench) (frame : List ℕ) (t : Fields) (room : ℕ) : Type 0 where
-  pub read : read_frame frame 240 ≡ Telegram t
+  pub read : read_frame frame 240 ≡ Ok t
   pub ours : t.destination ≡ bench.address
   pub asks : IsNotARequest t → ⊥
   pub roomy : length (reply_of bench t (data_in frame)) ≤ room
@@ -133,7 +131,7 @@ pub record Answerable (bench : Bench) (frame : List ℕ) (t : Fields) (room : �
 -- the reply goes "to the telegram's source", from the bench's address, with the register, a type and data; the bench is then `after`
 abbrev pub Gives : Bench → Fields → List ℕ → ℕ → List ℕ → Bench → AfterTake → List ℕ → Type 0
 Gives bench t room sort bytes after r room' =
-    (r.answer ≡ Answered (length (telegram_for t.source bench.address sort t.register bytes)))
+    (r.answer ≡ Ok (length (telegram_for t.source bench.address sort t.register bytes)))
     × (r.bench ≡ after)
     × (room' ≡ over (telegram_for t.source bench.address sort t.register bytes) room)
 

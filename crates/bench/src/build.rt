@@ -1,16 +1,15 @@
 // Building a bench: make it, add registers, set a register to a number of its kind.
 ghost use Rattle.bench.specs.Build.{Makes, Adds, Sets};
-ghost use Rattle.bench.specs.declared.Building.TheVariants.{Refused};
-ghost use Rattle.std.specs.Prelude.{◌≡◌};
+ghost use Rattle.std.specs.Prelude.{◌≡◌, Err};
 
-use crate::{AfterBuild, Bench, Building, Fault, held};
+use crate::{AfterBuild, Bench, Fault, held};
 
 fn refused(bench: Bench, fault: Fault) -> AfterBuild
-    ensures { (result.answer ≡ Refused fault) × (result.bench ≡ bench) }
+    ensures { (result.answer ≡ Err fault) × (result.bench ≡ bench) }
 {
     AfterBuild {
         bench,
-        answer: Building::Refused(fault),
+        answer: Err(fault),
     }
 }
 
@@ -24,7 +23,7 @@ pub fn make(address: u8) -> AfterBuild
     }
     AfterBuild {
         bench: held::empty(address),
-        answer: Building::Done,
+        answer: Ok(()),
     }
 }
 
@@ -38,15 +37,15 @@ pub fn add(bench: Bench, number: u8, kind: u8, rights: u8) -> AfterBuild
     if 7 < rights {
         return refused(bench, Fault::WrongRights);
     }
-    let held::Found::Nowhere = held::find(bench, number) else {
+    if held::find(bench, number).is_some() {
         return refused(bench, Fault::AlreadyThere);
-    };
+    }
     if 32 <= bench.count {
         return refused(bench, Fault::Full);
     }
     AfterBuild {
         bench: held::with_register(bench, number, kind, rights),
-        answer: Building::Done,
+        answer: Ok(()),
     }
 }
 
@@ -54,15 +53,15 @@ pub fn add(bench: Bench, number: u8, kind: u8, rights: u8) -> AfterBuild
 pub fn set(bench: Bench, number: u8, value: values::Value) -> AfterBuild
     ensures { Sets bench number value result }
 {
-    let held::Found::At(place) = held::find(bench, number) else {
+    let Some(place) = held::find(bench, number) else {
         return refused(bench, Fault::NotHeld);
     };
     let register = held::register_at(bench, place);
-    let values::Stored::As(stored) = values::as_stored(register.kind, value) else {
+    let Ok(stored) = values::as_stored(register.kind, value) else {
         return refused(bench, Fault::DoesNotFit);
     };
     AfterBuild {
         bench: held::with_value(bench, place, stored),
-        answer: Building::Done,
+        answer: Ok(()),
     }
 }

@@ -3,18 +3,11 @@ ghost use Rattle.bench.specs.Register.{Looks, empty_bench, register_at, held_cou
 ghost use Rattle.bench.specs.Build.{with_register};
 ghost use Rattle.std.specs.Prelude.{◌≡◌, ◌<◌};
 
-use crate::{Bench, Seen};
+use crate::Bench;
 use deeds::Register;
 
 // The most registers that a bench holds.
 pub const MOST: usize = 32;
-
-// Where a register is held, if it is.
-#[derive(Clone, Copy)]
-pub(crate) enum Found {
-    At(usize),
-    Nowhere,
-}
 
 const NOTHING: Register = Register {
     number: 0,
@@ -50,14 +43,11 @@ pub(crate) fn register_at(bench: Bench, place: usize) -> Register
 }
 
 // Looks for a register among those held.
-pub(crate) fn find(bench: Bench, number: u8) -> Found
+pub(crate) fn find(bench: Bench, number: u8) -> Option<usize>
     ensures { result ≡ found bench number }
 {
     let held = &bench.registers[..held_count(bench)];
-    match held.iter().position(|register| register.number == number) {
-        Some(place) => Found::At(place),
-        None => Found::Nowhere,
-    }
+    held.iter().position(|register| register.number == number)
 }
 
 // The bench with one register more, behind those that it holds.
@@ -92,11 +82,9 @@ pub(crate) fn with_value(mut bench: Bench, place: usize, value: u64) -> Bench
 }
 
 // A register as it is, for the tester.
-pub fn look(bench: Bench, number: u8) -> Seen
+pub fn look(bench: Bench, number: u8) -> Option<Register>
     ensures { Looks bench number result }
 {
-    match find(bench, number) {
-        Found::At(place) => Seen::Held(register_at(bench, place)),
-        Found::Nowhere => Seen::NotHeld,
-    }
+    let place = find(bench, number)?;
+    Some(register_at(bench, place))
 }

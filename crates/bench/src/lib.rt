@@ -39,36 +39,17 @@ pub enum Fault {
     DoesNotFit,
 }
 
-#[derive(Clone, Copy)]
-pub enum Building {
-    Done,
-    Refused(Fault),
-}
-
-#[derive(Clone, Copy)]
-pub enum Taking {
-    // how long the reply is
-    Answered(usize),
-    Silent(Fault),
-}
-
-#[derive(Clone, Copy)]
-pub enum Seen {
-    Held(Register),
-    NotHeld,
-}
-
 // A call's answer, with the bench as it is afterwards.
 #[derive(Clone, Copy)]
 pub struct AfterBuild {
     pub bench: Bench,
-    pub answer: Building,
+    pub answer: Result<(), Fault>,
 }
 
 #[derive(Clone, Copy)]
 pub struct AfterTake {
     pub bench: Bench,
-    pub answer: Taking,
+    pub answer: Result<usize, Fault>,
 }
 
 // The paper's number of a refusal; of a telegram that could not be read, the reader's.

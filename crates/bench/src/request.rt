@@ -1,9 +1,8 @@
 // A telegram for the bench: read, judged, done and answered.
 ghost use Rattle.bench.specs.Take.{Takes, Requests, Answers, deed_of, reply_for, reply_of, done_to, is_answer, room_refusal};
-ghost use Rattle.bench.specs.declared.Taking.TheVariants.{Silent};
-ghost use Rattle.std.specs.Prelude.{◌≡◌, ◌≢◌, ◌≤◌, ◌<◌, length};
+ghost use Rattle.std.specs.Prelude.{◌≡◌, ◌≢◌, ◌≤◌, ◌<◌, length, Err};
 
-use crate::{AfterTake, Bench, Fault, Taking, held};
+use crate::{AfterTake, Bench, Fault, held};
 use deeds::Deed;
 use telegram::Fields;
 
@@ -14,7 +13,7 @@ pub fn take(bench: Bench, frame: &[u8], room: &mut [u8]) -> AfterTake
 {
     let mut space = [0u8; telegram::MOST_DATA];
     let reading = telegram::read(frame, &mut space);
-    let telegram::Reading::Telegram(t) = reading else {
+    let Ok(t) = reading else {
         return silent(bench, Fault::Unread(telegram::why(reading)));
     };
     let n = t.size;
@@ -22,11 +21,11 @@ pub fn take(bench: Bench, frame: &[u8], room: &mut [u8]) -> AfterTake
 }
 
 fn silent(bench: Bench, fault: Fault) -> AfterTake
-    ensures { (result.answer ≡ Silent fault) × (result.bench ≡ bench) }
+    ensures { (result.answer ≡ Err fault) × (result.bench ≡ bench) }
 {
     AfterTake {
         bench,
-        answer: Taking::Silent(fault),
+        answer: Err(fault),
     }
 }
 
@@ -75,10 +74,10 @@ fn reply(bench: Bench, t: Fields, deed: Deed, room: &mut [u8]) -> AfterTake
         &space[0..n],
         room,
     ) {
-        telegram::Writing::Refused(_) => silent(bench, Fault::NoRoom),
-        telegram::Writing::Written(n) => AfterTake {
+        Err(_) => silent(bench, Fault::NoRoom),
+        Ok(n) => AfterTake {
             bench: done(bench, t.register, deed),
-            answer: Taking::Answered(n),
+            answer: Ok(n),
         },
     }
 }
@@ -88,8 +87,8 @@ fn done(bench: Bench, number: u8, deed: Deed) -> Bench
     ensures { result ≡ done_to bench number deed }
 {
     match held::find(bench, number) {
-        held::Found::At(place) => held::with_value(bench, place, deed.value),
-        held::Found::Nowhere => bench,
+        Some(place) => held::with_value(bench, place, deed.value),
+        None => bench,
     }
 }
 
@@ -98,7 +97,7 @@ fn deed(bench: Bench, t: Fields, bytes: &[u8]) -> Deed
     ensures { result ≡ deed_of bench t bytes.now }
 {
     match held::find(bench, t.register) {
-        held::Found::At(place) => deeds::held_deed(held::register_at(bench, place), t.sort, bytes),
-        held::Found::Nowhere => deeds::nack(0),
+        Some(place) => deeds::held_deed(held::register_at(bench, place), t.sort, bytes),
+        None => deeds::nack(0),
     }
 }

@@ -2,7 +2,7 @@
 // test tool `rehearsal`.
 #![tactic(auto)]
 
-use bench::{AfterBuild, Bench, Building, Register, Seen, Taking};
+use bench::{AfterBuild, Bench, Fault, Register};
 use values_calls::value_of;
 use words::{Words, byte, count};
 
@@ -47,12 +47,12 @@ fn renewed(b: Bench, made: bool, after: AfterBuild, out: &mut [u8]) -> Shown {
     let answer = after.answer;
     let next = after.bench;
     match answer {
-        Building::Refused(fault) => Shown {
+        Err(fault) => Shown {
             bench: b,
             made: made,
             at: answers::refused(out, bench::number(fault)),
         },
-        Building::Done => Shown {
+        Ok(()) => Shown {
             bench: next,
             made: true,
             at: answers::ok(out),
@@ -100,10 +100,10 @@ fn built(after: AfterBuild, out: &mut [u8]) -> Shown {
     }
 }
 
-fn building(answer: Building, out: &mut [u8]) -> usize {
+fn building(answer: Result<(), Fault>, out: &mut [u8]) -> usize {
     match answer {
-        Building::Refused(fault) => answers::refused(out, bench::number(fault)),
-        Building::Done => answers::ok(out),
+        Err(fault) => answers::refused(out, bench::number(fault)),
+        Ok(()) => answers::ok(out),
     }
 }
 
@@ -136,12 +136,10 @@ fn tele_now(b: Bench, frame: &[u8], room: &mut [u8], out: &mut [u8]) -> Shown {
     }
 }
 
-fn taking(answer: Taking, out: &mut [u8]) -> usize {
+fn taking(answer: Result<usize, Fault>, out: &mut [u8]) -> usize {
     match answer {
-        Taking::Silent(fault) => {
-            answers::refused_at(out, bench::number(fault), bench::place(fault))
-        }
-        Taking::Answered(n) => {
+        Err(fault) => answers::refused_at(out, bench::number(fault), bench::place(fault)),
+        Ok(n) => {
             let at = answers::ok(out);
             answers::field(out, at, b" n=", n as u64)
         }
@@ -181,8 +179,8 @@ fn registers(b: Bench, out: &mut [u8], from: usize) -> usize {
 // A register, behind a comma unless it is the first, or nothing.
 fn register(b: Bench, number: u8, out: &mut [u8], from: usize, at: usize) -> usize {
     match bench::look(b, number) {
-        Seen::NotHeld => at,
-        Seen::Held(r) => {
+        None => at,
+        Some(r) => {
             let next = answers::comma(out, from, at);
             let behind = register_fields(r, out, next);
             stored_bytes(r, out, behind)

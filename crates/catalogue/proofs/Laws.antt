@@ -1,5 +1,6 @@
 -- What is promised of the catalogue: the laws that callers may cite.
 -- Assumes nothing.
+use Rattle.std.specs.Prelude.{Ok}
 use mathlib.Core.Path.{◌≡◌, refl, sym, ap, ◌∙◌}
 use mathlib.Core.Bool.{Bool, true, false, cond, not, ◌&&◌, ◌||◌, true≢false}
 use mathlib.Core.List.{List, [], ◌∷◌}
@@ -25,8 +26,7 @@ use Rattle.catalogue.specs.Catalogue.{VARIA, COMPACT, For, NoSuch, find_rows, is
 use Rattle.catalogue.specs.declared.Entry.{Entry}
 use Rattle.catalogue.specs.declared.Fault.{Fault}
 use Rattle.catalogue.specs.declared.Fault.TheVariants.{NoSuchRow}
-use Rattle.catalogue.specs.declared.Found.{Found}
-use Rattle.catalogue.specs.declared.Found.TheVariants.{Is}
+use Rattle.catalogue.specs.Answers.{Found}
 use Rattle.catalogue.proofs.Lookup.{is_for_lem, for_is}
 
 -- ---- "its rule checked once over the table"
@@ -135,7 +135,7 @@ first_for model register (l ∷ xs) e = by_test (is_for model register l) refl e
 
 -- each row of the table is answered, for its own type and register
 pub row_answered : (i model register : ℕ) → i < length table → For model register (get_or table i nothing)
-    → find_entry model register ≡ Is (entry_of (get_or table i nothing))
+    → find_entry model register ≡ Ok (entry_of (get_or table i nothing))
 unfolding find_entry find_refusal
 row_answered i model register h f =
     let there : named model register table ≡ true = named_at model register table i h f in
@@ -144,20 +144,20 @@ row_answered i model register h f =
     rw (there, first.3 ∙ ap (λ (k : ℕ). get_or table k nothing) place)
 
 -- computed: one of each sort, "read", "whole range", "from 1", and with its two ends
-pub rows_told : (find_entry COMPACT 0x1B ≡ Is (record { kind = 4; writable = false; lowest = 0; highest = 0 }))
-    × (find_entry VARIA 0x34 ≡ Is (record { kind = 3; writable = true; lowest = 0; highest = 65535 }))
-    × (find_entry COMPACT 0x33 ≡ Is (record { kind = 5; writable = true; lowest = 1; highest = 4294967295 }))
-    × (find_entry COMPACT 0x24 ≡ Is (record { kind = 3; writable = true; lowest = 0; highest = 4095 }))
+pub rows_told : (find_entry COMPACT 0x1B ≡ Ok (record { kind = 4; writable = false; lowest = 0; highest = 0 }))
+    × (find_entry VARIA 0x34 ≡ Ok (record { kind = 3; writable = true; lowest = 0; highest = 65535 }))
+    × (find_entry COMPACT 0x33 ≡ Ok (record { kind = 5; writable = true; lowest = 1; highest = 4294967295 }))
+    × (find_entry COMPACT 0x24 ≡ Ok (record { kind = 3; writable = true; lowest = 0; highest = 4095 }))
 unfolding find_entry find_refusal named line_for is_for table greatest is_signed size_of
 rows_told = (refl, refl, refl, refl)
 
 -- and nothing else is
 pub found_exactly : (model register : ℕ) (e : Entry)
-    → (find_entry model register ≡ Is e) ↔ ((i : ℕ) × (i < length table) × For model register (get_or table i nothing) × (e ≡ entry_of (get_or table i nothing)))
+    → (find_entry model register ≡ Ok e) ↔ ((i : ℕ) × (i < length table) × For model register (get_or table i nothing) × (e ≡ entry_of (get_or table i nothing)))
 unfolding find_entry find_refusal
 found_exactly model register e = (there (named model register table) refl, back)
   where
-    there : (b : Bool) → named model register table ≡ b → find_answer (cond (not b) (some NoSuchRow) none) (entry_of (line_for model register table)) ≡ Is e
+    there : (b : Bool) → named model register table ≡ b → find_answer (cond (not b) (some NoSuchRow) none) (entry_of (line_for model register table)) ≡ Ok e
         → (i : ℕ) × (i < length table) × For model register (get_or table i nothing) × (e ≡ entry_of (get_or table i nothing))
     there true n a =
         let first = first_for model register table n in
@@ -165,8 +165,8 @@ found_exactly model register e = (there (named model register table) refl, back)
         (first.0, first.1, first.2, is ∙ ap entry_of first.3)
     there false n a = clash (cc)
 
-    back : (i : ℕ) × (i < length table) × For model register (get_or table i nothing) × (e ≡ entry_of (get_or table i nothing)) → find_entry model register ≡ Is e
-    back r = row_answered r.0 model register r.1 r.2 ∙ ap Is (sym r.3)
+    back : (i : ℕ) × (i < length table) × For model register (get_or table i nothing) × (e ≡ entry_of (get_or table i nothing)) → find_entry model register ≡ Ok e
+    back r = row_answered r.0 model register r.1 r.2 ∙ ap Ok (sym r.3)
 
 -- ---- 50: "Each is given exactly when its condition holds"
 

@@ -1,5 +1,6 @@
 -- Looking a line up: what a search of the rows finds.
 -- Assumes nothing.
+use Rattle.std.specs.Prelude.{Ok, Err}
 use mathlib.Core.Path.{◌≡◌, refl, sym, ap, ◌∙◌}
 use mathlib.Core.Bool.{Bool, true, false, cond, not, ◌&&◌, ◌||◌, true≢false}
 use mathlib.Core.List.{List, [], ◌∷◌, map}
@@ -12,8 +13,7 @@ use Rattle.std.specs.List.{find}
 use Rattle.catalogue.specs.Catalogue.{Line, table, For, row_of, entry_of, is_for, named, line_for, find_refusal, find_answer, find_entry}
 use Rattle.catalogue.specs.declared.table.Row.{Row}
 use Rattle.catalogue.specs.declared.Fault.TheVariants.{NoSuchRow}
-use Rattle.catalogue.specs.declared.Found.{Found}
-use Rattle.catalogue.specs.declared.Found.TheVariants.{Is, Refused}
+use Rattle.catalogue.specs.Answers.{Found}
 
 pub is_for_lem : (model register : ℕ) (l : Line) → For model register l → is_for model register l ≡ true
 unfolding is_for
@@ -46,8 +46,8 @@ first_row model register (l ∷ ls) = go (row_for model register (row_of l)) (fi
 
 -- and so what is answered of what a search of the rows found
 abbrev pub answer_of : Option Row → Found
-answer_of (Some r) = Is (record { kind = r.kind; writable = r.writable; lowest = r.lowest; highest = r.highest })
-answer_of None = Refused NoSuchRow
+answer_of (Some r) = Ok (record { kind = r.kind; writable = r.writable; lowest = r.lowest; highest = r.highest })
+answer_of None = Err NoSuchRow
 
 pub answered : (model register : ℕ) {o : Option Row} → o ≡ find (row_for model register) (map row_of table) → answer_of o ≡ find_entry model register
 unfolding find_entry find_refusal

@@ -1,6 +1,6 @@
 -- The register catalogue: the paper's table in its own words and order, and what a search of it answers.
 -- Assumes nothing.
-use Rattle.std.specs.Prelude.{◌≡◌, Bool, true, false, cond, not, ◌&&◌, ◌||◌, List, [], ◌∷◌, ◌⊎◌, ℕ, ◌≤◌, ◌<◌, eqb, leb, length, get_or}
+use Rattle.std.specs.Prelude.{◌≡◌, Bool, true, false, cond, not, ◌&&◌, ◌||◌, List, [], ◌∷◌, ◌⊎◌, ℕ, ◌≤◌, ◌<◌, eqb, leb, length, get_or, Ok, Err}
 use Rattle.std.proofs.Math.Option.{Option, some, none}
 use Rattle.rows.specs.Rows.{Row as Refusal, row, Test, test, first_row_of}
 use Rattle.values.specs.Values.{size_of, is_signed, is_kind, greatest, fits, Holds}
@@ -9,8 +9,7 @@ use Rattle.catalogue.specs.declared.Entry.{Entry}
 use Rattle.catalogue.specs.declared.table.Row.{Row}
 use Rattle.catalogue.specs.declared.Fault.{Fault}
 use Rattle.catalogue.specs.declared.Fault.TheVariants.{NoSuchRow}
-use Rattle.catalogue.specs.declared.Found.{Found}
-use Rattle.catalogue.specs.declared.Found.TheVariants as found
+use Rattle.catalogue.specs.Answers.{Found}
 
 -- ---- "a fixed table of module type and register, with kind, right to write, lowest and highest written value"
 
@@ -166,16 +165,16 @@ unfoldable pub find_refusal : ℕ → ℕ → Option Fault
 find_refusal model register = first_row_of (find_tests model register)
 
 abbrev pub find_answer : Option Fault → Entry → Found
-find_answer (some f) e = found.Refused f
-find_answer none e = found.Is e
+find_answer (some f) e = Err f
+find_answer none e = Ok e
 
 unfoldable pub find_entry : ℕ → ℕ → Found
 find_entry model register = find_answer (find_refusal model register) (entry_of (line_for model register table))
 
 -- the number that an answer tells, or none
 abbrev pub find_told : Found → Option ℕ
-find_told (found.Refused f) = some (fault_number f)
-find_told (found.Is e) = none
+find_told (Err f) = some (fault_number f)
+find_told (Ok e) = none
 
 -- ---- the rule of the table
 

@@ -20,12 +20,6 @@ pub enum Fault {
     NoSuchRow,
 }
 
-#[derive(Clone, Copy)]
-pub enum Found {
-    Is(Entry),
-    Refused(Fault),
-}
-
 // The paper's number of a refusal.
 pub fn number(fault: Fault) -> u8
     ensures { Numbers fault result }
@@ -36,19 +30,19 @@ pub fn number(fault: Fault) -> u8
 }
 
 // The row of that type of module and that register.
-pub fn find(model: u8, register: u8) -> Found
+pub fn find(model: u8, register: u8) -> Result<Entry, Fault>
     ensures { Finds model register result }
 {
-    let found = table::ROWS
+    let Some(row) = table::ROWS
         .iter()
-        .find(|row| row.model == model && row.register == register);
-    match found {
-        Some(row) => Found::Is(Entry {
-            kind: row.kind,
-            writable: row.writable,
-            lowest: row.lowest,
-            highest: row.highest,
-        }),
-        None => Found::Refused(Fault::NoSuchRow),
-    }
+        .find(|row| row.model == model && row.register == register)
+    else {
+        return Err(Fault::NoSuchRow);
+    };
+    Ok(Entry {
+        kind: row.kind,
+        writable: row.writable,
+        lowest: row.lowest,
+        highest: row.highest,
+    })
 }

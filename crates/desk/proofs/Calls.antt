@@ -1,5 +1,7 @@
 -- What each return of the calls gives, over plain numbers, tickets and desks.
 -- Assumes nothing.
+use Rattle.desk.specs.Answers.{opening}
+use Rattle.std.specs.Prelude.{Ok, Err}
 use mathlib.Core.Path.{◌≡◌, refl, sym, ap, ◌∙◌}
 use mathlib.Core.Bool.{Bool, true, false, cond, not, ◌&&◌, true≢false}
 use mathlib.Core.List.{List}
@@ -18,14 +20,10 @@ use Rattle.telegram.proofs.Judge.{reading_refused, reading_telegram}
 use Rattle.telegram.specs.Read.{read_refusal, room_after, read_frame, fields_in}
 use Rattle.telegram.specs.Write.{telegram_for, write_refusal, write_answer, Writes}
 use Rattle.telegram.specs.declared.Fields.{Fields}
-use Rattle.telegram.specs.declared.Reading.{Reading}
-use Rattle.telegram.specs.declared.Reading.TheVariants.{Telegram}
-use Rattle.telegram.specs.declared.Writing.{Writing}
-use Rattle.telegram.specs.declared.Writing.TheVariants.{Written}
+use Rattle.telegram.specs.Answers.{Reading}
+use Rattle.telegram.specs.Answers.{Writing}
 use Rattle.telegram.specs.declared.Fault.{Fault as Unreadable}
 use Rattle.telegram.specs.declared.Fault.TheVariants.{NoRoom as OverRoom}
-use Rattle.telegram.specs.declared.Reading.TheVariants.{Refused as Unreading}
-use Rattle.telegram.specs.declared.Writing.TheVariants.{Refused as NotWritten}
 use Rattle.first.proofs.Laws.{first-none, first_at}
 use Rattle.first.specs.First.{first_place}
 use Rattle.ticket.specs.Fit.{fit_refusal}
@@ -41,9 +39,7 @@ use Rattle.request.specs.declared.Request.{Request}
 use Rattle.ticket.specs.declared.Ticket.{Ticket}
 use Rattle.desk.specs.declared.Desk.{Desk}
 use Rattle.desk.specs.declared.Fault.TheVariants.{Denied, FolderHeld, NoRoom, Unread, Misfit, NotTheirs, NothingDue}
-use Rattle.desk.specs.declared.Opening.TheVariants.{Opened}
 use Rattle.desk.specs.declared.AfterOpen.{AfterOpen}
-use Rattle.desk.specs.declared.Opening.TheVariants.{Refused}
 
 -- ---- tickets
 
@@ -125,34 +121,34 @@ module _ (desk : Desk) (d : ℕ) (asked : Request) (bytes : List ℕ) (clock : �
       rw (lt-leb 95 d near)
       (go (ltb (length room) (length (request_at (place_from desk.turn d) asked bytes))) (rw only at writes.0, rw only at writes.1))
 
-  pub opened_at_lem : (n : ℕ) (desk' : Desk) → w ≡ Written n → desk' ≡ with_ticket desk (place_from desk.turn d) (new_ticket asked clock)
-      → PlacesAt desk d asked bytes clock room (record { desk = desk'; answer = Opened (161 + place_from desk.turn d) n; count = d + 1 }) room'
+  pub opened_at_lem : (n : ℕ) (desk' : Desk) → w ≡ Ok n → desk' ≡ with_ticket desk (place_from desk.turn d) (new_ticket asked clock)
+      → PlacesAt desk d asked bytes clock room (record { desk = desk'; answer = opening (161 + place_from desk.turn d) n; count = d + 1 }) room'
   unfolding place Outcome Told
   opened_at_lem n desk' e laid = written _ go
     where
-      go : (short : Bool) → Told short → Outcome short (record { desk = desk'; answer = Opened (161 + place_from desk.turn d) n; count = d + 1 })
+      go : (short : Bool) → Told short → Outcome short (record { desk = desk'; answer = opening (161 + place_from desk.turn d) n; count = d + 1 })
       go true told = absurd (let z : ◌≡◌ {A = ℕ} 0 1 = cc told.0 in omega arith)
       go false told =
-          (ap (Opened (161 + place_from desk.turn d)) (let same : n ≡ length (request_at place asked bytes) = cc told.0 in same), laid, told.1, refl)
+          (ap (opening (161 + place_from desk.turn d)) (let same : n ≡ length (request_at place asked bytes) = cc told.0 in same), laid, told.1, refl)
 
-  pub no_room_at : (f : Unreadable) → w ≡ NotWritten f → PlacesAt desk d asked bytes clock room (record { desk = desk; answer = Refused NoRoom; count = d + 1 }) room'
+  pub no_room_at : (f : Unreadable) → w ≡ Err f → PlacesAt desk d asked bytes clock room (record { desk = desk; answer = Err NoRoom; count = d + 1 }) room'
   unfolding place Outcome Told
   no_room_at f e = written _ go
     where
-      go : (short : Bool) → Told short → Outcome short (record { desk = desk; answer = Refused NoRoom; count = d + 1 })
+      go : (short : Bool) → Told short → Outcome short (record { desk = desk; answer = Err NoRoom; count = d + 1 })
       go true told = (refl, refl, told.1, refl)
       go false told = absurd (let z : ◌≡◌ {A = ℕ} 0 1 = cc told.0 in omega arith)
 
 -- ---- a reply
 
 pub reply_unread : (desk : Desk) (frame : List ℕ) (room : ℕ) (reading : Reading) (f : Unreadable)
-    → reading ≡ read_frame frame room → reading ≡ Unreading f → reply_refusal desk frame room ≡ some (Unread f)
+    → reading ≡ read_frame frame room → reading ≡ Err f → reply_refusal desk frame room ≡ some (Unread f)
 unfolding reply_refusal
 reply_unread desk frame room reading f p q = rw (reading_refused frame room f (sym p ∙ q))
 
 -- a telegram that was read is judged by its fields
 pub reply_judged : (desk : Desk) (frame : List ℕ) (room : ℕ) (reading : Reading) (t : Fields) (ticket : Ticket) (o : Option Unfit)
-    → reading ≡ read_frame frame room → reading ≡ Telegram t → ticket ≡ ticket_on desk t.destination → fit_refusal ticket t ≡ o
+    → reading ≡ read_frame frame room → reading ≡ Ok t → ticket ≡ ticket_on desk t.destination → fit_refusal ticket t ≡ o
     → (read_refusal frame room ≡ none) × (t ≡ fields_in frame) × (reply_refusal desk frame room ≡ raised Misfit o)
 unfolding reply_refusal book_refusal
 reply_judged desk frame room reading t ticket o p q on e =

@@ -1,5 +1,7 @@
 -- What is promised of the count: 02, #108, "How far did it look".
 -- Assumes nothing.
+use Rattle.desk.specs.Answers.{opening}
+use Rattle.std.specs.Prelude.{Err}
 use mathlib.Core.Path.{◌≡◌, refl, sym, ◌∙◌}
 use mathlib.Core.Bool.{Bool, true, false}
 use mathlib.Core.List.{List, [], ◌∷◌}
@@ -31,7 +33,6 @@ use Rattle.desk.specs.declared.Desk.{Desk}
 use Rattle.desk.specs.declared.Fault.{Fault}
 use Rattle.desk.specs.declared.Fault.TheVariants.{Denied, FolderHeld, NoneFree, NoRoom}
 use Rattle.desk.specs.declared.AfterOpen.{AfterOpen}
-use Rattle.desk.specs.declared.Opening.TheVariants.{Opened, Refused}
 
 never : {A : Type 0} → ◌≡◌ {A = ℕ} 0 1 → A
 never z = absurd (omega arith)
@@ -107,10 +108,10 @@ counts none false false false address length distance n e = never (cc)
 module _ (desk : Desk) (asked : Request) (bytes : List ℕ) (clock : ℕ) (room : List ℕ) (r : AfterOpen) (room' : List ℕ)
     (opens : Opens desk asked bytes clock room r room') where
   -- "the count equals the definition's distance from the turn to the address given", and one for that address itself
-  pub opened_count : (address n : ℕ) → r.answer ≡ Opened address n → r.count ≡ distance_of desk clock + 1
+  pub opened_count : (address n : ℕ) → r.answer ≡ opening address n → r.count ≡ distance_of desk clock + 1
   opened_count address n e = opens.3 ∙ rw (opened_fit desk asked bytes clock room r room' opens address n e).0
 
-  pub opened_considered : (address n : ℕ) → desk.turn < 95 → r.answer ≡ Opened address n → Considered desk clock address r.count
+  pub opened_considered : (address n : ℕ) → desk.turn < 95 → r.answer ≡ opening address n → Considered desk clock address r.count
   opened_considered address n turn e =
       let fit = opened_fit desk asked bytes clock room r room' opens address n e in
       rw (fit.1, opened_count address n e) (found desk clock turn (fit_to_open desk asked bytes clock (length room) fit.0).1)
@@ -126,7 +127,7 @@ module _ (desk : Desk) (asked : Request) (bytes : List ℕ) (clock : ℕ) (room 
       (λ h. opens.3 ∙ told.0 h, λ h. opens.3 ∙ told.1 h, λ h. opens.3 ∙ told.2 h, λ h. opens.3 ∙ told.3 h)
 
   -- "and with 16 the count up to the address that would have been given": the one whose telegram does not fit
-  pub no_room_considered : desk.turn < 95 → r.answer ≡ Refused NoRoom
+  pub no_room_considered : desk.turn < 95 → r.answer ≡ Err NoRoom
       → (address : ℕ)
       × Considered desk clock address r.count
       × (length room < length (telegram_for asked.unit address asked.sort asked.register bytes))
@@ -141,7 +142,7 @@ module _ (desk : Desk) (asked : Request) (bytes : List ℕ) (clock : ℕ) (room 
 -- the address that would have been given is the one that is given with more room
 pub same_with_room : (desk : Desk) (asked : Request) (bytes : List ℕ) (clock : ℕ) (room more : List ℕ) (r s : AfterOpen) (room' more' : List ℕ)
     → Opens desk asked bytes clock room r room' → Opens desk asked bytes clock more s more'
-    → (address n : ℕ) → r.answer ≡ Refused NoRoom → s.answer ≡ Opened address n → r.count ≡ s.count
+    → (address n : ℕ) → r.answer ≡ Err NoRoom → s.answer ≡ opening address n → r.count ≡ s.count
 same_with_room desk asked bytes clock room more r s room' more' short wide address n e f =
     let refused = open_refused_lem (open_refusal desk asked bytes clock (length room)) _ _ NoRoom (sym e ∙ short.0) in
     short.3 ∙ rw refused (sym (opened_count desk asked bytes clock more s more' wide address n f))

@@ -1,6 +1,7 @@
 -- What is promised of the desk, each law under the sentence that it keeps: 01 is the specification, M the mission. Rows 10 to 22 and 61
 -- are in Ranking.antt, and what holds over many calls in the crate `nights`.
 -- Assumes nothing.
+use Rattle.std.specs.Prelude.{Ok, Err}
 use mathlib.Core.Path.{◌≡◌, refl, sym, ap, ap₂, ◌∙◌}
 use mathlib.Core.Bool.{Bool, true, false, cond, not, true≢false}
 use mathlib.Core.List.{List, [], ◌∷◌}
@@ -32,8 +33,7 @@ use Rattle.telegram.specs.Read.{read_refusal, fields_in, data_in, read_frame, Re
 use Rattle.telegram.specs.Write.{message_for, telegram_for, fields_for, write_refusal}
 use Rattle.telegram.specs.declared.Fault.TheVariants.{CheckFault}
 use Rattle.telegram.specs.declared.Fields.{Fields}
-use Rattle.telegram.specs.declared.Reading.{Reading}
-use Rattle.telegram.specs.declared.Reading.TheVariants.{Telegram}
+use Rattle.telegram.specs.Answers.{Reading}
 use Rattle.telegram.specs.declared.Fault.{Fault as Unreadable}
 use Rattle.ticket.proofs.Laws.{fitting, decides_due, decides_free}
 use Rattle.ticket.specs.Due.{age, IsDue}
@@ -54,20 +54,14 @@ use Rattle.desk.specs.Reply.{book_refusal, reply_refusal, book_told, answered_on
 use Rattle.desk.specs.declared.Desk.{Desk}
 use Rattle.desk.specs.declared.Fault.{Fault}
 use Rattle.desk.specs.declared.Fault.TheVariants.{Denied, FolderHeld, NoneFree, NoRoom, Unread, Misfit, NotTheirs, NothingDue}
-use Rattle.desk.specs.declared.Opening.{Opening}
-use Rattle.desk.specs.declared.Opening.TheVariants.{Opened}
-use Rattle.desk.specs.declared.Booking.{Booking}
-use Rattle.desk.specs.declared.Booking.TheVariants.{Booked}
-use Rattle.desk.specs.declared.Closing.{Closing}
-use Rattle.desk.specs.declared.Closing.TheVariants.{Closed}
+use Rattle.desk.specs.Answers.{Opening, booking, closing, opening}
+use Rattle.desk.specs.Answers.{Booking}
+use Rattle.desk.specs.Answers.{Closing}
 use Rattle.desk.specs.declared.Seen.{Seen}
 use Rattle.desk.specs.declared.Seen.TheVariants as seen
 use Rattle.desk.specs.declared.AfterOpen.{AfterOpen}
 use Rattle.desk.specs.declared.AfterReply.{AfterReply}
 use Rattle.desk.specs.declared.AfterClose.{AfterClose}
-use Rattle.desk.specs.declared.Opening.TheVariants.{Refused as NotOpened}
-use Rattle.desk.specs.declared.Booking.TheVariants.{Refused as NotBooked}
-use Rattle.desk.specs.declared.Closing.TheVariants.{Refused as NotClosed}
 
 -- ---- a store at one place
 
@@ -142,13 +136,13 @@ fit_to_open desk asked bytes clock room e =
 -- of what opening answers, by its contract
 module _ (desk : Desk) (asked : Request) (bytes : List ℕ) (clock : ℕ) (room : List ℕ) (r : AfterOpen) (room' : List ℕ)
     (opens : Opens desk asked bytes clock room r room') where
-  pub opened_fit : (address n : ℕ) → r.answer ≡ Opened address n
+  pub opened_fit : (address n : ℕ) → r.answer ≡ opening address n
       → (open_refusal desk asked bytes clock (length room) ≡ none)
       × (address ≡ 161 + given_place desk clock)
       × (n ≡ length (request_at (given_place desk clock) asked bytes))
   opened_fit address n e = opened_told _ _ _ address n (sym e ∙ opens.0)
 
-  pub opened_given : (address n : ℕ) → length desk.tickets ≡ 95 → r.answer ≡ Opened address n → Given desk asked clock address r.desk
+  pub opened_given : (address n : ℕ) → length desk.tickets ≡ 95 → r.answer ≡ opening address n → Given desk asked clock address r.desk
   opened_given address n places e =
       let a = opened_fit address n e in
       let there : r.desk ≡ with_ticket desk (given_place desk clock) (new_ticket asked clock) = opens.1 ∙ rw a.0 in
@@ -156,9 +150,9 @@ module _ (desk : Desk) (asked : Request) (bytes : List ℕ) (clock : ℕ) (room 
 
   -- 01: "The request telegram is written with that address as source, into the first bytes of the lent buffer": read with room for the
   -- data, it gives back what was asked
-  pub request_reads_back : (address n : ℕ) → r.answer ≡ Opened address n
+  pub request_reads_back : (address n : ℕ) → r.answer ≡ opening address n
       → (buffer : List ℕ) (a : Reading) (buffer' : List ℕ) → length bytes ≤ length buffer → Reads (take n room') buffer a buffer'
-      → (a ≡ Telegram (fields_for asked.unit address asked.sort asked.register bytes)) × (buffer' ≡ over bytes buffer)
+      → (a ≡ Ok (fields_for asked.unit address asked.sort asked.register bytes)) × (buffer' ≡ over bytes buffer)
   request_reads_back address n e buffer a buffer' h reads =
       let o = opened_fit address n e in
       let fit = fit_to_open desk asked bytes clock (length room) o.0 in
@@ -170,7 +164,7 @@ module _ (desk : Desk) (asked : Request) (bytes : List ℕ) (clock : ℕ) (room 
       (rw (wrote, o.2, o.1) refl, opens.2 ∙ rw (o.0, wrote, o.1)) buffer a buffer' h reads
 
   -- "into the first bytes of the lent buffer; the address and the telegram's length are answered": every byte behind it stays
-  pub request_written : (address n : ℕ) → r.answer ≡ Opened address n
+  pub request_written : (address n : ℕ) → r.answer ≡ opening address n
       → (n ≡ length (telegram_for asked.unit address asked.sort asked.register bytes))
       × (room' ≡ over (telegram_for asked.unit address asked.sort asked.register bytes) room)
   request_written address n e =
@@ -178,7 +172,7 @@ module _ (desk : Desk) (asked : Request) (bytes : List ℕ) (clock : ℕ) (room 
       (o.2 ∙ rw o.1, opens.2 ∙ rw (o.0, o.1))
 
   -- 01: "It returns its number only, and every buffer, ticket and register and the desk's turn are as before."
-  pub open_refusal_keeps : (f : Fault) → r.answer ≡ NotOpened f → (r.desk ≡ desk) × (room' ≡ room)
+  pub open_refusal_keeps : (f : Fault) → r.answer ≡ Err f → (r.desk ≡ desk) × (room' ≡ room)
   open_refusal_keeps f e =
       let o = open_refused_lem (open_refusal desk asked bytes clock (length room)) _ _ f (sym e ∙ opens.0) in
       (opens.1 ∙ rw o, opens.2 ∙ rw o)
@@ -198,7 +192,7 @@ empty_place place =
 -- 01: "A fresh desk has no tickets and its next turn at 161": whatever may be asked is opened there, with room for the longest telegram
 pub fresh_opens : (asked : Request) (bytes : List ℕ) (clock : ℕ) (room : List ℕ) (r : AfterOpen) (room' : List ℕ)
     → Opens fresh_desk asked bytes clock room r room' → ask_refusal asked bytes ≡ none → 494 ≤ length room
-    → r.answer ≡ Opened 161 (length (request_at 0 asked bytes))
+    → r.answer ≡ opening 161 (length (request_at 0 asked bytes))
 unfolding open_refusal given_place distance_of IsFolderHeld
 fresh_opens asked bytes clock room r room' opens allowed wide =
     let near : distance_of fresh_desk clock ≡ 0 =
@@ -236,7 +230,7 @@ closes_alone desk address left shut live =
       turn_kept = refl;
     }
 
--- 02, #102: "Booked replies still free the address at once."
+-- 02, #102: "booking replies still free the address at once."
 pub answers_alone : (desk : Desk) (address : ℕ) → OpenOn desk address → ClosedAlone desk address no_ticket (answered_on desk address)
 answers_alone desk address = closes_alone desk address no_ticket refl
 
@@ -261,7 +255,7 @@ fit_to_book desk frame room e =
     (raised_none Unread (read_refusal frame room) a.0, fit.0, fit.1, fit.2, fit.3)
 
 module _ (desk : Desk) (frame room : List ℕ) (r : AfterReply) (room' : List ℕ) (replies : Replies desk frame room r room') where
-  pub booked_right : (job address sort n folder : ℕ) → r.answer ≡ Booked job address sort n folder
+  pub booked_right : (job address sort n folder : ℕ) → r.answer ≡ booking job address sort n folder
       → Books desk frame (length room) (fields_in frame) job address sort n folder r.desk × (room' ≡ over (data_in frame) room)
   unfolding read_frame
   booked_right job address sort n folder e =
@@ -284,13 +278,13 @@ module _ (desk : Desk) (frame room : List ℕ) (r : AfterReply) (room' : List �
         replies.2 ∙ rw b.0,
       )
 
-  pub reply_refusal_keeps : (f : Fault) → r.answer ≡ NotBooked f → (r.desk ≡ desk) × (room' ≡ room)
+  pub reply_refusal_keeps : (f : Fault) → r.answer ≡ Err f → (r.desk ≡ desk) × (room' ≡ room)
   reply_refusal_keeps f e =
       let o = book_refused (reply_refusal desk frame (length room)) _ _ f (sym e ∙ replies.0) in
       (replies.1 ∙ rw o, replies.2 ∙ rw o)
 
   -- "a refusal there ends the call", and its number is the reader's
-  pub unread_passed_up : (f : Unreadable) → read_refusal frame (length room) ≡ some f → r.answer ≡ NotBooked (Unread f)
+  pub unread_passed_up : (f : Unreadable) → read_refusal frame (length room) ≡ some f → r.answer ≡ Err (Unread f)
   unfolding reply_refusal
   unread_passed_up f e = replies.0 ∙ rw e
 
@@ -298,19 +292,19 @@ module _ (desk : Desk) (frame room : List ℕ) (r : AfterReply) (room' : List �
 -- offer it with 240 bytes of room. It is refused as a check fault, closes no ticket" Stated of any alteration of the same length
 -- whose own remainder is not 0.
 
-pub altered_reply : (frame : List ℕ) (offered : ℕ) (t : Fields) → read_frame frame offered ≡ Telegram t
+pub altered_reply : (frame : List ℕ) (offered : ℕ) (t : Fields) → read_frame frame offered ≡ Ok t
     → (m : List ℕ) → length (message_of frame) ≡ length m → remainder_of (combined (message_of frame) m) ≢ 0
     → (desk : Desk) (room : List ℕ) (r : AfterReply) (room' : List ℕ) → 240 ≤ length room → Replies desk (framed m) room r room'
-    → (r.answer ≡ NotBooked (Unread CheckFault)) × (r.desk ≡ desk) × (room' ≡ room)
+    → (r.answer ≡ Err (Unread CheckFault)) × (r.desk ≡ desk) × (room' ≡ room)
 altered_reply frame offered t e m same odd desk room r room' h replies =
     let seven = altered_refused frame offered t e m same odd (length room) h in
     let answer = unread_passed_up desk (framed m) room r room' replies CheckFault seven in
     let kept = reply_refusal_keeps desk (framed m) room r room' replies (Unread CheckFault) answer in
     (answer, kept.0, kept.1)
 
-pub nearby_reply : (frame : List ℕ) (offered : ℕ) (t : Fields) → read_frame frame offered ≡ Telegram t → (m : List ℕ) → AlteredNearby (message_of frame) m
+pub nearby_reply : (frame : List ℕ) (offered : ℕ) (t : Fields) → read_frame frame offered ≡ Ok t → (m : List ℕ) → AlteredNearby (message_of frame) m
     → (desk : Desk) (room : List ℕ) (r : AfterReply) (room' : List ℕ) → 240 ≤ length room → Replies desk (framed m) room r room'
-    → (r.answer ≡ NotBooked (Unread CheckFault)) × (r.desk ≡ desk) × (room' ≡ room)
+    → (r.answer ≡ Err (Unread CheckFault)) × (r.desk ≡ desk) × (room' ≡ room)
 nearby_reply frame offered t e m near = altered_reply frame offered t e m near.same_length (burst_seen (combined (message_of frame) m) (nearby_burst near))
 
 -- ---- 01: "Cancel closes the ticket that is open on the address for that job now [..] and answers job and address." 02, #102: "Cancel takes a
@@ -323,7 +317,7 @@ fit_to_cancel desk job address e =
     (decides_and (decides_set (ticket_on desk address).live) (decides_eq (ticket_on desk address).asked.job job)).so (not-false _ b.0)
 
 pub cancelled_right : (desk : Desk) (job address clock : ℕ) (r : AfterClose) (job' address' folder : ℕ)
-    → Cancels desk job address clock r → r.answer ≡ Closed job' address' folder
+    → Cancels desk job address clock r → r.answer ≡ closing job' address' folder
     → (job' ≡ job)
     × (address' ≡ address)
     × ((ticket_on desk address).asked.job ≡ job)
@@ -345,7 +339,7 @@ fit_to_expire desk clock e =
     let near : place < 95 = leb-false _ _ (first_false (leb 95 place) NothingDue none e).0 in
     (near, rw (on_host desk place) ((decides_due clock (ticket_at desk place)).so ((due_ended desk clock).there near)))
 
-pub expired_right : (desk : Desk) (clock : ℕ) (r : AfterClose) (job address folder : ℕ) → Expires desk clock r → r.answer ≡ Closed job address folder
+pub expired_right : (desk : Desk) (clock : ℕ) (r : AfterClose) (job address folder : ℕ) → Expires desk clock r → r.answer ≡ closing job address folder
     → Expired desk clock job address folder r.desk
 expired_right desk clock r job address folder x e =
     let place : ℕ = due_place desk clock in
@@ -364,10 +358,10 @@ expired_right desk clock r job address folder x e =
     }
 
 pub cancel_refusal_keeps : (desk : Desk) (job address clock : ℕ) (r : AfterClose) (f : Fault)
-    → Cancels desk job address clock r → r.answer ≡ NotClosed f → r.desk ≡ desk
+    → Cancels desk job address clock r → r.answer ≡ Err f → r.desk ≡ desk
 cancel_refusal_keeps desk job address clock r f c e = let o = close_refused (cancel_refusal desk job address) _ _ f (sym e ∙ c.0) in c.1 ∙ rw o
 
-pub expire_refusal_keeps : (desk : Desk) (clock : ℕ) (r : AfterClose) (f : Fault) → Expires desk clock r → r.answer ≡ NotClosed f → r.desk ≡ desk
+pub expire_refusal_keeps : (desk : Desk) (clock : ℕ) (r : AfterClose) (f : Fault) → Expires desk clock r → r.answer ≡ Err f → r.desk ≡ desk
 expire_refusal_keeps desk clock r f x e = let o = close_refused (expire_refusal desk clock) _ _ f (sym e ∙ x.0) in x.1 ∙ rw o
 
 -- a reply to an address under 161, where no ticket can be, is 17
@@ -400,7 +394,7 @@ closed_plainly c = (c.was_open, c.closed, c.others, c.turn_kept)
 
 pub books_plainly : {desk : Desk} {frame : List ℕ} {room : ℕ} {t : Fields} {job address sort n folder : ℕ} {desk' : Desk}
     → Books desk frame room t job address sort n folder desk'
-    → (read_frame frame room ≡ Telegram t)
+    → (read_frame frame room ≡ Ok t)
     × (address ≡ t.destination)
     × (job ≡ (ticket_on desk address).asked.job)
     × (t.source ≡ (ticket_on desk address).asked.unit)

@@ -1,5 +1,6 @@
 -- 02, #105: "All that pass the reader's answer on [..] pass the place on": the desk's reply.
 -- Assumes nothing.
+use Rattle.std.specs.Prelude.{Ok, Err}
 use mathlib.Core.Path.{◌≡◌, refl, sym, ap, subst, ◌∙◌}
 use mathlib.Core.List.{List}
 use mathlib.Core.Logic.{◌≢◌}
@@ -22,8 +23,7 @@ use Rattle.desk.proofs.Answers.{book_refused}
 use Rattle.desk.specs.Desk.{ticket_on, fault_number, fault_place, Places}
 use Rattle.desk.specs.Reply.{book_refusal, reply_refusal, book_told, book_place, Replies}
 use Rattle.desk.specs.declared.AfterReply.{AfterReply}
-use Rattle.desk.specs.declared.Booking.{Booking}
-use Rattle.desk.specs.declared.Booking.TheVariants.{Booked, Refused}
+use Rattle.desk.specs.Answers.{Booking}
 use Rattle.desk.specs.declared.Desk.{Desk}
 use Rattle.desk.specs.declared.Fault.{Fault}
 use Rattle.desk.specs.declared.Fault.TheVariants.{Denied, FolderHeld, NoneFree, NoRoom, Unread, Misfit, NotTheirs, NothingDue}
@@ -63,8 +63,8 @@ module _ (desk : Desk) (frame room : List ℕ) (r : AfterReply) (room' : List �
   reply_place told = go r.answer refl told
     where
       go : (a : Booking) → r.answer ≡ a → book_told a ≡ some 3 → FirstFaulty frame (book_place a)
-      go (Booked job address sort n folder) is e = clash (cc)
-      go (Refused f) is e =
+      go (Ok booked) is e = clash (cc)
+      go (Err f) is e =
           let u = three_unread f (number_of e) in
           let refusal : reply_refusal desk frame (length room) ≡ some (Unread u.0) =
           book_refused (reply_refusal desk frame (length room)) _ _ f (sym is ∙ replies.0) ∙ ap some u.1 in
@@ -74,7 +74,7 @@ module _ (desk : Desk) (frame room : List ℕ) (r : AfterReply) (room' : List �
           (sym (ap fault_number u.1) ∙ number_of e))
 
   -- and the call `place` tells it
-  pub reply_told_place : (f : Fault) (place : ℕ) → r.answer ≡ Refused f → fault_number f ≡ 3 → Places f place → FirstFaulty frame place
+  pub reply_told_place : (f : Fault) (place : ℕ) → r.answer ≡ Err f → fault_number f ≡ 3 → Places f place → FirstFaulty frame place
   reply_told_place f place is number told =
       subst (FirstFaulty frame) (sym told) (subst (λ (a : Booking). book_told a ≡ some 3 → FirstFaulty frame (book_place a)) is reply_place (ap some number))
 
@@ -90,8 +90,8 @@ fault_unplaced NotTheirs other = refl
 fault_unplaced NothingDue other = refl
 
 pub reply_no_place : (a : Booking) → book_told a ≢ some 3 → book_place a ≡ 0
-reply_no_place (Booked job address sort n folder) other = refl
-reply_no_place (Refused f) other = fault_unplaced f (λ e. other (ap some e))
+reply_no_place (Ok booked) other = refl
+reply_no_place (Err f) other = fault_unplaced f (λ e. other (ap some e))
 
 -- the call `place` gives the place that these laws speak of
 pub place_is : (f : Fault) (r : ℕ) → Places f r → r ≡ fault_place f

@@ -1,6 +1,6 @@
 -- Cancelling and expiring: rows 21 and 22.
 -- Assumes nothing.
-use Rattle.std.specs.Prelude.{◌≡◌, Bool, not, ◌&&◌, List, [], ◌∷◌, ℕ, ◌+◌, ◌-◌, ◌<◌, eqb, leb}
+use Rattle.std.specs.Prelude.{◌≡◌, Bool, not, ◌&&◌, List, [], ◌∷◌, ℕ, ◌+◌, ◌-◌, ◌<◌, eqb, leb, Ok, Err}
 use Rattle.std.proofs.Math.Option.{Option, some, none}
 use Rattle.rows.specs.Rows.{Row, row, test, first_row_of, Test}
 use Rattle.first.specs.First.{first_place}
@@ -11,8 +11,7 @@ use Rattle.ticket.specs.declared.Ticket.{Ticket}
 use Rattle.desk.specs.declared.Desk.{Desk}
 use Rattle.desk.specs.declared.Fault.{Fault}
 use Rattle.desk.specs.declared.Fault.TheVariants.{NotTheirs, NothingDue}
-use Rattle.desk.specs.declared.Closing.{Closing}
-use Rattle.desk.specs.declared.Closing.TheVariants.{Closed, Refused}
+use Rattle.desk.specs.Answers.{Closing, closing}
 use Rattle.desk.specs.declared.AfterClose.{AfterClose}
 
 -- ---- "Cancel closes the ticket that is open on the address for that job now"
@@ -58,13 +57,13 @@ expire_refusal desk clock = first_row_of (expire_tests (due_place desk clock))
 -- ---- both answer job and address, and by 02, #110, the folder
 
 abbrev pub close_answer : Option Fault → Ticket → ℕ → Closing
-close_answer (some f) ticket address = Refused f
-close_answer none ticket address = Closed ticket.asked.job address ticket.asked.folder
+close_answer (some f) ticket address = Err f
+close_answer none ticket address = closing ticket.asked.job address ticket.asked.folder
 
 -- the number that an answer tells
 abbrev pub close_told : Closing → Option ℕ
-close_told (Refused f) = some (fault_number f)
-close_told (Closed job address folder) = none
+close_told (Err f) = some (fault_number f)
+close_told (Ok closed) = none
 
 -- the desk without the ticket that was cancelled or expired at a clock. 02, #102: "an address closed by cancel or expiry rests" from then
 abbrev pub withdrawn_on : Desk → ℕ → ℕ → Desk

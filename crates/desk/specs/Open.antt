@@ -1,6 +1,6 @@
 -- Opening a ticket: rows 10 to 14, 75, 15 and 16, the address that is given, the next turn, and the request telegram.
 -- Assumes nothing.
-use Rattle.std.specs.Prelude.{◌≡◌, Bool, true, false, List, [], ◌∷◌, ◌++◌, ◌⊎◌, ℕ, ◌+◌, ◌%◌, ◌≤◌, ◌<◌, leb, ltb, length}
+use Rattle.std.specs.Prelude.{◌≡◌, Bool, true, false, List, [], ◌∷◌, ◌++◌, ◌⊎◌, ℕ, ◌+◌, ◌%◌, ◌≤◌, ◌<◌, leb, ltb, length, Ok, Err}
 use Rattle.std.proofs.Math.Option.{Option, some, none}
 use Rattle.lent.specs.Lent.{over}
 use Rattle.rows.specs.Rows.{Row, row, Test, test, first_row_of, or_later, passed_up, raised}
@@ -18,8 +18,7 @@ use Rattle.desk.specs.Folder.{IsFolderHeld, is_folder_held}
 use Rattle.desk.specs.declared.Desk.{Desk}
 use Rattle.desk.specs.declared.Fault.{Fault}
 use Rattle.desk.specs.declared.Fault.TheVariants.{Denied, FolderHeld, NoneFree, NoRoom, Unread, Misfit, NotTheirs, NothingDue}
-use Rattle.desk.specs.declared.Opening.{Opening}
-use Rattle.desk.specs.declared.Opening.TheVariants.{Opened, Refused}
+use Rattle.desk.specs.Answers.{Opening, opening}
 use Rattle.desk.specs.declared.AfterOpen.{AfterOpen}
 
 -- ---- "The address given is the first one without a ticket, from the turn upwards and after 255 from 161 on." 02, #102: one that rests at the
@@ -77,13 +76,13 @@ open_rows desk asked bytes clock room =
 -- ---- the answer, the desk and the buffer, each from the refusal
 
 abbrev pub open_answer : Option Fault → ℕ → ℕ → Opening
-open_answer (some f) address n = Refused f
-open_answer none address n = Opened address n
+open_answer (some f) address n = Err f
+open_answer none address n = opening address n
 
 -- the number that an answer tells
 abbrev pub open_told : Opening → Option ℕ
-open_told (Refused f) = some (fault_number f)
-open_told (Opened address n) = none
+open_told (Err f) = some (fault_number f)
+open_told (Ok opened) = none
 
 -- the ticket stands at the place that was given, and "the turn then moves to the address after it, again with 161 after 255"
 abbrev pub with_ticket : Desk → ℕ → Ticket → Desk

@@ -1,10 +1,9 @@
 -- What a call that was not refused did to the desk, in the papers' sentences: for the laws that callers cite.
 -- Assumes nothing.
-use Rattle.std.specs.Prelude.{◌≡◌, true, false, cond, List, ◌≢◌, ◌⊎◌, ℕ, zero, suc, ◌+◌, ◌-◌, ◌%◌, ◌≤◌, ◌<◌, eqb}
+use Rattle.std.specs.Prelude.{◌≡◌, true, false, cond, List, ◌≢◌, ◌⊎◌, ℕ, zero, suc, ◌+◌, ◌-◌, ◌%◌, ◌≤◌, ◌<◌, eqb, Ok}
 use Rattle.request.specs.declared.Request.{Request}
 use Rattle.telegram.specs.Read.{read_frame}
 use Rattle.telegram.specs.declared.Fields.{Fields}
-use Rattle.telegram.specs.declared.Reading.TheVariants.{Telegram}
 use Rattle.ticket.specs.Due.{IsDue}
 use Rattle.ticket.specs.Fit.{KindFits, RegisterFits}
 use Rattle.ticket.specs.Rest.{Rests, Free}
@@ -58,7 +57,7 @@ pub record ClosedAlone (desk : Desk) (address : ℕ) (left : Ticket) (desk' : De
 -- register must equal the ticket's. [..] A booked reply closes the ticket, answers its job, address, type and data, and frees the address."
 -- 02, #110: "Replies, cancels and expiries answer the folder as well".
 pub record Books (desk : Desk) (frame : List ℕ) (room : ℕ) (t : Fields) (job address sort n folder : ℕ) (desk' : Desk) : Type 0 where
-  pub was_read : read_frame frame room ≡ Telegram t
+  pub was_read : read_frame frame room ≡ Ok t
   pub for_address : address ≡ t.destination
   pub theirs : job ≡ (ticket_on desk address).asked.job
   pub from_module : t.source ≡ (ticket_on desk address).asked.unit

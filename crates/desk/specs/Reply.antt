@@ -1,6 +1,6 @@
 -- A reply: "first read as a telegram; a refusal there ends the call", then rows 61 and 17 to 20.
 -- Assumes nothing.
-use Rattle.std.specs.Prelude.{◌≡◌, List, ◌++◌, ℕ, ◌-◌, length}
+use Rattle.std.specs.Prelude.{◌≡◌, List, ◌++◌, ℕ, ◌-◌, length, Ok, Err}
 use Rattle.std.proofs.Math.Option.{Option, some, none}
 use Rattle.lent.specs.Lent.{over}
 use Rattle.rows.specs.Rows.{Row, or_later, passed_up, raised}
@@ -13,8 +13,7 @@ use Rattle.ticket.specs.declared.Ticket.{Ticket}
 use Rattle.desk.specs.declared.Desk.{Desk}
 use Rattle.desk.specs.declared.Fault.{Fault}
 use Rattle.desk.specs.declared.Fault.TheVariants.{Unread, Misfit}
-use Rattle.desk.specs.declared.Booking.{Booking}
-use Rattle.desk.specs.declared.Booking.TheVariants.{Booked, Refused}
+use Rattle.desk.specs.Answers.{Booking, booking}
 use Rattle.desk.specs.declared.AfterReply.{AfterReply}
 
 -- ---- the rows: the reader's, and then those of what stands on the destination
@@ -40,20 +39,20 @@ reply_refusal desk frame room = unread_or frame room (book_refusal desk (fields_
 -- expiries answer the folder as well".
 
 abbrev pub book_answer : Option Fault → Ticket → Fields → Booking
-book_answer (some f) ticket t = Refused f
-book_answer none ticket t = Booked ticket.asked.job t.destination t.sort t.size ticket.asked.folder
+book_answer (some f) ticket t = Err f
+book_answer none ticket t = booking ticket.asked.job t.destination t.sort t.size ticket.asked.folder
 
 -- the number that an answer tells
 abbrev pub book_told : Booking → Option ℕ
-book_told (Refused f) = some (fault_number f)
-book_told (Booked job address sort n folder) = none
+book_told (Err f) = some (fault_number f)
+book_told (Ok booked) = none
 
 -- the place that an answer tells, with the reader's 3; 0 for none
 abbrev pub book_place : Booking → ℕ
-book_place (Refused f) = fault_place f
-book_place (Booked job address sort n folder) = 0
+book_place (Err f) = fault_place f
+book_place (Ok booked) = 0
 
--- the desk without the ticket that was answered. 02, #102: "Booked replies still free the address at once."
+-- the desk without the ticket that was answered. 02, #102: "booking replies still free the address at once."
 abbrev pub answered_on : Desk → ℕ → Desk
 answered_on desk address = put_at desk (address - 161) no_ticket
 

@@ -45,26 +45,30 @@ pub enum Fault {
     NothingDue,
 }
 
+// What was opened: the host address that was given, and the length of the request telegram.
 #[derive(Clone, Copy)]
-pub enum Opening {
-    // the host address that was given, and the length of the request telegram
-    Opened(u8, usize),
-    Refused(Fault),
+pub struct Opened {
+    pub address: u8,
+    pub size: usize,
 }
 
+// What was booked. Whose ticket it was: job and address; what came: type and number of data bytes;
+// and the folder that the ticket held.
 #[derive(Clone, Copy)]
-pub enum Booking {
-    // whose ticket it was: job and address; what came: type and number of data bytes; and the folder
-    // that the ticket held
-    Booked(u32, u8, u8, usize, u32),
-    Refused(Fault),
+pub struct Booked {
+    pub job: u32,
+    pub address: u8,
+    pub sort: u8,
+    pub size: usize,
+    pub folder: u32,
 }
 
+// The job, the address and the folder of the ticket that was closed.
 #[derive(Clone, Copy)]
-pub enum Closing {
-    // the job, the address and the folder of the ticket that was closed
-    Closed(u32, u8, u32),
-    Refused(Fault),
+pub struct Closed {
+    pub job: u32,
+    pub address: u8,
+    pub folder: u32,
 }
 
 #[derive(Clone, Copy)]
@@ -79,7 +83,7 @@ pub enum Seen {
 #[derive(Clone, Copy)]
 pub struct AfterOpen {
     pub desk: Desk,
-    pub answer: Opening,
+    pub answer: Result<Opened, Fault>,
     // how many addresses were considered, up to and including the one given: 0 where the request may
     // not be sent or its folder is held, 95 where none is free, and without room up to the one that
     // would have been given
@@ -89,13 +93,13 @@ pub struct AfterOpen {
 #[derive(Clone, Copy)]
 pub struct AfterReply {
     pub desk: Desk,
-    pub answer: Booking,
+    pub answer: Result<Booked, Fault>,
 }
 
 #[derive(Clone, Copy)]
 pub struct AfterClose {
     pub desk: Desk,
-    pub answer: Closing,
+    pub answer: Result<Closed, Fault>,
 }
 
 // A desk with no tickets and its turn at 161.
@@ -162,16 +166,16 @@ pub fn open(desk: Desk, asked: Request, data: &[u8], clock: u32, room: &mut [u8]
     ensures { Opens desk asked «data».now clock room.old result room.new }
 {
     match request::judge(asked, data) {
-        request::Asking::Denied(fault) => AfterOpen {
+        Err(fault) => AfterOpen {
             desk,
-            answer: Opening::Refused(Fault::Denied(fault)),
+            answer: Err(Fault::Denied(fault)),
             count: 0,
         },
-        request::Asking::Allowed => {
+        Ok(()) => {
             if is_folder_held(desk, asked) {
                 return AfterOpen {
                     desk,
-                    answer: Opening::Refused(Fault::FolderHeld),
+                    answer: Err(Fault::FolderHeld),
                     count: 0,
                 };
             }
@@ -202,7 +206,7 @@ fn open_at(
     if 95 <= distance {
         return AfterOpen {
             desk,
-            answer: Opening::Refused(Fault::NoneFree),
+            answer: Err(Fault::NoneFree),
             count: 95,
         };
     }
@@ -210,12 +214,12 @@ fn open_at(
     let address = 161 + place;
     let count = distance + 1;
     match telegram::write(asked.unit, address, asked.sort, asked.register, data, room) {
-        telegram::Writing::Refused(_) => AfterOpen {
+        Err(_) => AfterOpen {
             desk,
-            answer: Opening::Refused(Fault::NoRoom),
+            answer: Err(Fault::NoRoom),
             count,
         },
-        telegram::Writing::Written(n) => AfterOpen {
+        Ok(n) => AfterOpen {
             desk: with_ticket(
                 desk,
                 place,
@@ -227,7 +231,7 @@ fn open_at(
                     closed: 0,
                 },
             ),
-            answer: Opening::Opened(address, n),
+            answer: Ok(Opened { address, size: n }),
             count,
         },
     }
@@ -239,29 +243,29 @@ pub fn reply(desk: Desk, frame: &[u8], room: &mut [u8]) -> AfterReply
     ensures { Replies desk frame.now room.old result room.new }
 {
     let reading = telegram::examine(frame, room.len());
-    let telegram::Reading::Telegram(t) = reading else {
+    let Ok(t) = reading else {
         return AfterReply {
             desk,
-            answer: Booking::Refused(Fault::Unread(telegram::why(reading))),
+            answer: Err(Fault::Unread(telegram::why(reading))),
         };
     };
     let ticket = ticket_on(desk, t.destination);
     match ticket::judge(ticket, t) {
-        ticket::Judged::Misfit(fault) => AfterReply {
+        Err(fault) => AfterReply {
             desk,
-            answer: Booking::Refused(Fault::Misfit(fault)),
+            answer: Err(Fault::Misfit(fault)),
         },
-        ticket::Judged::Fits => {
-            telegram::read(frame, room);
+        Ok(()) => {
+            let _ = telegram::read(frame, room);
             AfterReply {
                 desk: answered_on(desk, t.destination),
-                answer: Booking::Booked(
-                    ticket.asked.job,
-                    t.destination,
-                    t.sort,
-                    t.size,
-                    ticket.asked.folder,
-                ),
+                answer: Ok(Booked {
+                    job: ticket.asked.job,
+                    address: t.destination,
+                    sort: t.sort,
+                    size: t.size,
+                    folder: ticket.asked.folder,
+                }),
             }
         }
     }
@@ -284,7 +288,7 @@ pub fn cancel(desk: Desk, job: u32, address: u8, clock: u32) -> AfterClose
     }
     AfterClose {
         desk,
-        answer: Closing::Refused(Fault::NotTheirs),
+        answer: Err(Fault::NotTheirs),
     }
 }
 
@@ -302,7 +306,7 @@ pub fn expire(desk: Desk, clock: u32) -> AfterClose
     if 95 <= place {
         return AfterClose {
             desk,
-            answer: Closing::Refused(Fault::NothingDue),
+            answer: Err(Fault::NothingDue),
         };
     }
     withdraw(desk, 161 + place, clock)
@@ -316,7 +320,11 @@ fn withdraw(desk: Desk, address: u8, clock: u32) -> AfterClose
     let ticket = ticket_on(desk, address);
     AfterClose {
         desk: put_at(desk, address - 161, withdrawn_at(clock)),
-        answer: Closing::Closed(ticket.asked.job, address, ticket.asked.folder),
+        answer: Ok(Closed {
+            job: ticket.asked.job,
+            address,
+            folder: ticket.asked.folder,
+        }),
     }
 }
 

@@ -2,15 +2,15 @@
 // test tool `rehearsal`.
 #![tactic(auto)]
 
-use desk::{Booking, Closing, Desk, Opening, Request, Seen, Ticket};
+use desk::{AfterClose, Booked, Closed, Desk, Fault, Opened, Request, Seen, Ticket};
 use words::{Words, byte, count, word32};
 
 // What others hear of a call: what the desk answered about a ticket, or that it is a new desk.
 #[derive(Clone, Copy)]
 pub enum Heard {
     Nothing,
-    Reply(Booking),
-    Closing(Closing),
+    Reply(Result<Booked, Fault>),
+    Closing(Result<Closed, Fault>),
     Anew,
 }
 
@@ -137,13 +137,13 @@ fn open_now(d: Desk, ask: Ask, data: &[u8], times: Times, room: &mut [u8], out: 
     }
 }
 
-fn opened(answer: Opening, count: u8, out: &mut [u8]) -> usize {
+fn opened(answer: Result<Opened, Fault>, count: u8, out: &mut [u8]) -> usize {
     match answer {
-        Opening::Refused(fault) => answers::refused_count(out, desk::number(fault), count),
-        Opening::Opened(address, n) => answers::form(
+        Err(fault) => answers::refused_count(out, desk::number(fault), count),
+        Ok(Opened { address, size }) => answers::form(
             out,
             b"ok address=# n=# count=#",
-            &[address as u64, n as u64, count as u64],
+            &[address as u64, size as u64, count as u64],
         ),
     }
 }
@@ -174,20 +174,18 @@ fn reply_now(d: Desk, frame: &[u8], room: &mut [u8], out: &mut [u8]) -> Told {
     }
 }
 
-fn booked(answer: Booking, out: &mut [u8]) -> usize {
+fn booked(answer: Result<Booked, Fault>, out: &mut [u8]) -> usize {
     match answer {
-        Booking::Refused(fault) => {
-            answers::refused_at(out, desk::number(fault), desk::place(fault))
-        }
-        Booking::Booked(job, address, sort, size, folder) => answers::form(
+        Err(fault) => answers::refused_at(out, desk::number(fault), desk::place(fault)),
+        Ok(ticket) => answers::form(
             out,
             b"ok job=# address=# type=# n=# folder=#",
             &[
-                job as u64,
-                address as u64,
-                sort as u64,
-                size as u64,
-                folder as u64,
+                ticket.job as u64,
+                ticket.address as u64,
+                ticket.sort as u64,
+                ticket.size as u64,
+                ticket.folder as u64,
             ],
         ),
     }
@@ -216,7 +214,7 @@ fn expire(d: Desk, w: Words, line: &[u8], out: &mut [u8]) -> Told {
     bad(d, out)
 }
 
-fn closed(after: desk::AfterClose, out: &mut [u8]) -> Told {
+fn closed(after: AfterClose, out: &mut [u8]) -> Told {
     let answer = after.answer;
     let next = after.desk;
     Told {
@@ -226,13 +224,17 @@ fn closed(after: desk::AfterClose, out: &mut [u8]) -> Told {
     }
 }
 
-fn closing(answer: Closing, out: &mut [u8]) -> usize {
+fn closing(answer: Result<Closed, Fault>, out: &mut [u8]) -> usize {
     match answer {
-        Closing::Refused(fault) => answers::refused(out, desk::number(fault)),
-        Closing::Closed(job, address, folder) => answers::form(
+        Err(fault) => answers::refused(out, desk::number(fault)),
+        Ok(ticket) => answers::form(
             out,
             b"ok job=# address=# folder=#",
-            &[job as u64, address as u64, folder as u64],
+            &[
+                ticket.job as u64,
+                ticket.address as u64,
+                ticket.folder as u64,
+            ],
         ),
     }
 }

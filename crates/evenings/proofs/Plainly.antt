@@ -1,5 +1,8 @@
 -- What the definitions of an evening say, said out. 02, #104.
 -- Assumes nothing.
+use Rattle.varia.specs.Answers.{asking, sent}
+use Rattle.desk.specs.Answers.{booking, closing, opening}
+use Rattle.std.specs.Prelude.{Err, Some, None}
 use mathlib.Core.Path.{◌≡◌, refl, sym, ap, subst, ◌∙◌}
 use mathlib.Core.Bool.{true, false}
 use mathlib.Core.List.{List, [], ◌∷◌, ◌++◌}
@@ -13,19 +16,13 @@ use Rattle.desk.specs.Reply.{Replies}
 use Rattle.desk.specs.declared.AfterClose.{AfterClose}
 use Rattle.desk.specs.declared.AfterOpen.{AfterOpen}
 use Rattle.desk.specs.declared.AfterReply.{AfterReply}
-use Rattle.desk.specs.declared.Booking.TheVariants.{Booked, Refused as NotBooked}
-use Rattle.desk.specs.declared.Closing.TheVariants.{Closed, Refused as NotClosed}
 use Rattle.desk.specs.declared.Desk.{Desk}
-use Rattle.desk.specs.declared.Opening.TheVariants.{Opened as OpenedAt, Refused as NotOpened}
 use Rattle.nights.specs.Night.{Call, after_all}
 use Rattle.request.specs.declared.Request.{Request}
 use Rattle.varia.specs.Ask.{SetsEdge, Attenuates, ReadsMonitor, ReadsStatus}
 use Rattle.varia.specs.Box.{edge_register, HearsReply, HearsClosing}
 use Rattle.varia.specs.declared.AfterAsk.{AfterAsk}
-use Rattle.varia.specs.declared.Asking.TheVariants.{Opened, Refused}
-use Rattle.varia.specs.declared.Edge.TheVariants.{Unknown, Known}
 use Rattle.varia.specs.declared.FilterBox.{FilterBox}
-use Rattle.varia.specs.declared.Out.TheVariants.{Nothing, Edge}
 use Rattle.varia.specs.declared.Pass.{Pass}
 use Rattle.varia.specs.declared.Pass.TheVariants.{Short, Long}
 use Rattle.evenings.specs.Evening.{Event, Evening, OutOn, Acknowledged, GivenUp, KnownAs, Promised, of_edge, of_asking, of_opening, of_booking, of_closing}
@@ -35,14 +32,14 @@ use Rattle.evenings.specs.Evening.{begins, sets, attenuates, reads_monitor, read
 -- ---- an evening begins with a box that knows neither edge, at any time of any night
 
 pub begins_plainly : (job unit : ℕ) (calls : List Call)
-    → Evening job unit (record { job = job; unit = unit; short = Unknown; long = Unknown; out = Nothing }) (after_all fresh_desk calls) []
+    → Evening job unit (record { job = job; unit = unit; short = None; long = None; out = None }) (after_all fresh_desk calls) []
 begins_plainly job unit calls = begins calls
 
 -- ---- and whatever is an evening began so, or came by one call from an evening: one of the box, an opening, a reply, a cancel or an expiry, as
 -- its contract allows it, with that answer told to the box and written down
 
 pub evening_only : {job unit : ℕ} {box : FilterBox} {desk : Desk} {past : List Event} → Evening job unit box desk past
-    → ((box ≡ record { job = job; unit = unit; short = Unknown; long = Unknown; out = Nothing })
+    → ((box ≡ record { job = job; unit = unit; short = None; long = None; out = None })
     × ((calls : List Call) × (desk ≡ after_all fresh_desk calls))
     × (past ≡ []))
     ⊎ ((b : FilterBox) × (d : Desk) × (earlier : List Event) × Evening job unit b d earlier
@@ -78,16 +75,16 @@ evening_only (expires evening clock r box' c told) =
     inr (_, _, _, evening, inr (inr (inr (inr (r, inr (clock, c), told, refl, refl)))))
 
 by_asking : {job unit : ℕ} {past : List Event} (r : AfterAsk) → Evening job unit r.filters r.desk (of_asking r.answer ∷ past)
-    → ((address n : ℕ) → r.answer ≡ Opened address n → Evening job unit r.filters r.desk (opened address ∷ past))
-    × ((f : _) → r.answer ≡ Refused f → Evening job unit r.filters r.desk (nothing ∷ past))
+    → ((address n : ℕ) → r.answer ≡ asking address n → Evening job unit r.filters r.desk (opened address ∷ past))
+    × ((f : _) → r.answer ≡ Err f → Evening job unit r.filters r.desk (nothing ∷ past))
 by_asking {job} {unit} {past} r next = (
   λ address n e. subst (λ a. Evening job unit r.filters r.desk (of_asking a ∷ past)) e next,
   λ f e. subst (λ a. Evening job unit r.filters r.desk (of_asking a ∷ past)) e next,
 )
 
 by_closing : {job unit : ℕ} {past : List Event} (r : AfterClose) (box' : FilterBox) → Evening job unit box' r.desk (of_closing r.answer ∷ past)
-    → ((theirs there folder : ℕ) → r.answer ≡ Closed theirs there folder → Evening job unit box' r.desk (withdrawn there ∷ past))
-    × ((f : _) → r.answer ≡ NotClosed f → Evening job unit box' r.desk (nothing ∷ past))
+    → ((theirs there folder : ℕ) → r.answer ≡ closing theirs there folder → Evening job unit box' r.desk (withdrawn there ∷ past))
+    × ((f : _) → r.answer ≡ Err f → Evening job unit box' r.desk (nothing ∷ past))
 by_closing {job} {unit} {past} r box' next = (
   λ theirs there folder e. subst (λ a. Evening job unit box' r.desk (of_closing a ∷ past)) e next,
   λ f e. subst (λ a. Evening job unit box' r.desk (of_closing a ∷ past)) e next,
@@ -97,8 +94,8 @@ by_closing {job} {unit} {past} r box' next = (
 
 module _ {job unit : ℕ} {box : FilterBox} {desk : Desk} {past : List Event} (evening : Evening job unit box desk past) where
   pub goes_on_set : (pass : Pass) (tenths wait clock : ℕ) (room : List ℕ) (r : AfterAsk) (room' : List ℕ) → SetsEdge pass box desk tenths wait clock room r room'
-      → ((address n : ℕ) → r.answer ≡ Opened address n → Evening job unit r.filters r.desk (asked pass tenths address ∷ past))
-      × ((f : _) → r.answer ≡ Refused f → Evening job unit r.filters r.desk (nothing ∷ past))
+      → ((address n : ℕ) → r.answer ≡ asking address n → Evening job unit r.filters r.desk (asked pass tenths address ∷ past))
+      × ((f : _) → r.answer ≡ Err f → Evening job unit r.filters r.desk (nothing ∷ past))
   goes_on_set pass tenths wait clock room r room' c =
       let next = sets evening pass tenths wait clock room r room' c in (
         λ address n e. subst (λ a. Evening job unit r.filters r.desk (of_edge pass tenths a ∷ past)) e next,
@@ -107,24 +104,24 @@ module _ {job unit : ℕ} {box : FilterBox} {desk : Desk} {past : List Event} (e
 
   -- the box's other requests
   pub goes_on_attenuate : (permille wait clock : ℕ) (room : List ℕ) (r : AfterAsk) (room' : List ℕ) → Attenuates box desk permille wait clock room r room'
-      → ((address n : ℕ) → r.answer ≡ Opened address n → Evening job unit r.filters r.desk (opened address ∷ past))
-      × ((f : _) → r.answer ≡ Refused f → Evening job unit r.filters r.desk (nothing ∷ past))
+      → ((address n : ℕ) → r.answer ≡ asking address n → Evening job unit r.filters r.desk (opened address ∷ past))
+      × ((f : _) → r.answer ≡ Err f → Evening job unit r.filters r.desk (nothing ∷ past))
   goes_on_attenuate permille wait clock room r room' c = by_asking r (attenuates evening permille wait clock room r room' c)
 
   pub goes_on_monitor : (wait clock : ℕ) (room : List ℕ) (r : AfterAsk) (room' : List ℕ) → ReadsMonitor box desk wait clock room r room'
-      → ((address n : ℕ) → r.answer ≡ Opened address n → Evening job unit r.filters r.desk (opened address ∷ past))
-      × ((f : _) → r.answer ≡ Refused f → Evening job unit r.filters r.desk (nothing ∷ past))
+      → ((address n : ℕ) → r.answer ≡ asking address n → Evening job unit r.filters r.desk (opened address ∷ past))
+      × ((f : _) → r.answer ≡ Err f → Evening job unit r.filters r.desk (nothing ∷ past))
   goes_on_monitor wait clock room r room' c = by_asking r (reads_monitor evening wait clock room r room' c)
 
   pub goes_on_status : (wait clock : ℕ) (room : List ℕ) (r : AfterAsk) (room' : List ℕ) → ReadsStatus box desk wait clock room r room'
-      → ((address n : ℕ) → r.answer ≡ Opened address n → Evening job unit r.filters r.desk (opened address ∷ past))
-      × ((f : _) → r.answer ≡ Refused f → Evening job unit r.filters r.desk (nothing ∷ past))
+      → ((address n : ℕ) → r.answer ≡ asking address n → Evening job unit r.filters r.desk (opened address ∷ past))
+      × ((f : _) → r.answer ≡ Err f → Evening job unit r.filters r.desk (nothing ∷ past))
   goes_on_status wait clock room r room' c = by_asking r (reads_status evening wait clock room r room' c)
 
   -- anybody's request at the desk
   pub goes_on_open : (what : Request) (bytes : List ℕ) (clock : ℕ) (room : List ℕ) (r : AfterOpen) (room' : List ℕ) → Opens desk what bytes clock room r room'
-      → ((address n : ℕ) → r.answer ≡ OpenedAt address n → Evening job unit box r.desk (opened address ∷ past))
-      × ((f : _) → r.answer ≡ NotOpened f → Evening job unit box r.desk (nothing ∷ past))
+      → ((address n : ℕ) → r.answer ≡ opening address n → Evening job unit box r.desk (opened address ∷ past))
+      × ((f : _) → r.answer ≡ Err f → Evening job unit box r.desk (nothing ∷ past))
   goes_on_open what bytes clock room r room' c =
       let next = opens evening what bytes clock room r room' c in (
         λ address n e. subst (λ a. Evening job unit box r.desk (of_opening a ∷ past)) e next,
@@ -133,8 +130,8 @@ module _ {job unit : ℕ} {box : FilterBox} {desk : Desk} {past : List Event} (e
 
   -- any reply
   pub goes_on_reply : (frame room : List ℕ) (r : AfterReply) (room' : List ℕ) (box' : FilterBox) → Replies desk frame room r room' → HearsReply box r.answer box'
-      → ((theirs address sort n folder : ℕ) → r.answer ≡ Booked theirs address sort n folder → Evening job unit box' r.desk (booked address sort ∷ past))
-      × ((f : _) → r.answer ≡ NotBooked f → Evening job unit box' r.desk (nothing ∷ past))
+      → ((theirs address sort n folder : ℕ) → r.answer ≡ booking theirs address sort n folder → Evening job unit box' r.desk (booked address sort ∷ past))
+      × ((f : _) → r.answer ≡ Err f → Evening job unit box' r.desk (nothing ∷ past))
   goes_on_reply frame room r room' box' c told =
       let next = replies evening frame room r room' box' c told in (
         λ theirs address sort n folder e. subst (λ a. Evening job unit box' r.desk (of_booking a ∷ past)) e next,
@@ -143,13 +140,13 @@ module _ {job unit : ℕ} {box : FilterBox} {desk : Desk} {past : List Event} (e
 
   -- anybody's cancel, and any expiry
   pub goes_on_cancel : (job' address clock : ℕ) (r : AfterClose) (box' : FilterBox) → Cancels desk job' address clock r → HearsClosing box r.answer box'
-      → ((theirs there folder : ℕ) → r.answer ≡ Closed theirs there folder → Evening job unit box' r.desk (withdrawn there ∷ past))
-      × ((f : _) → r.answer ≡ NotClosed f → Evening job unit box' r.desk (nothing ∷ past))
+      → ((theirs there folder : ℕ) → r.answer ≡ closing theirs there folder → Evening job unit box' r.desk (withdrawn there ∷ past))
+      × ((f : _) → r.answer ≡ Err f → Evening job unit box' r.desk (nothing ∷ past))
   goes_on_cancel job' address clock r box' c told = by_closing r box' (cancels evening job' address clock r box' c told)
 
   pub goes_on_expire : (clock : ℕ) (r : AfterClose) (box' : FilterBox) → Expires desk clock r → HearsClosing box r.answer box'
-      → ((theirs there folder : ℕ) → r.answer ≡ Closed theirs there folder → Evening job unit box' r.desk (withdrawn there ∷ past))
-      × ((f : _) → r.answer ≡ NotClosed f → Evening job unit box' r.desk (nothing ∷ past))
+      → ((theirs there folder : ℕ) → r.answer ≡ closing theirs there folder → Evening job unit box' r.desk (withdrawn there ∷ past))
+      × ((f : _) → r.answer ≡ Err f → Evening job unit box' r.desk (nothing ∷ past))
   goes_on_expire clock r box' c told = by_closing r box' (expires evening clock r box' c told)
 
 -- ---- what is out under an address: the last to go out there decides, and what happens elsewhere does not
@@ -357,18 +354,18 @@ known_otherwise past a tenths sort w p q not_out = (
 -- ---- the promises of an evening, said out
 
 module _ {job unit : ℕ} {box : FilterBox} {desk : Desk} {past : List Event} (p : Promised job unit box desk past) where
-  pub short-known : (v : ℕ) → (box.short ≡ Known v) ↔ KnownAs past Short v
+  pub short-known : (v : ℕ) → (box.short ≡ Some v) ↔ KnownAs past Short v
   short-known = p.known Short
 
-  pub long_known : (v : ℕ) → (box.long ≡ Known v) ↔ KnownAs past Long v
+  pub long_known : (v : ℕ) → (box.long ≡ Some v) ↔ KnownAs past Long v
   long_known = p.known Long
 
   -- "the short-pass edge must be above the long-pass edge"
-  pub known_in_order : (s l : ℕ) → box.short ≡ Known s → box.long ≡ Known l → l < s
+  pub known_in_order : (s l : ℕ) → box.short ≡ Some s → box.long ≡ Some l → l < s
   known_in_order s l is_s is_l = p.in_order s l ((p.known Short s).0 is_s) ((p.known Long l).0 is_l)
 
   -- what the box has out is the one request for an edge that is out, and its ticket stands open
-  pub out_stands : (a : ℕ) (q : Pass) (v : ℕ) → box.out ≡ Edge a q v
+  pub out_stands : (a : ℕ) (q : Pass) (v : ℕ) → box.out ≡ sent a q v
       → OutOn past a q v
       × ((b : ℕ) (x : Pass) (w : ℕ) → OutOn past b x w → (b ≡ a) × (x ≡ q) × (w ≡ v))
       × ((wait : ℕ) × (clock : ℕ)
@@ -385,8 +382,8 @@ module _ {job unit : ℕ} {box : FilterBox} {desk : Desk} {past : List Event} (p
       (out, λ b x w other. p.one_out b a x q w v other out, p.stands a q v out)
 
   -- and where the box has nothing out, nothing is
-  pub none_is_out : box.out ≡ Nothing → (a : ℕ) (q : Pass) (v : ℕ) → OutOn past a q v → ⊥
+  pub none_is_out : box.out ≡ None → (a : ℕ) (q : Pass) (v : ℕ) → OutOn past a q v → ⊥
   none_is_out is a q v out = clash_of (sym is ∙ (p.is_out_lem a q v).1 out)
     where
-      clash_of : Nothing ≡ Edge a q v → ⊥
+      clash_of : None ≡ sent a q v → ⊥
       clash_of e = clash (cc)

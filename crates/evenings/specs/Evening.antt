@@ -1,7 +1,7 @@
 -- Evenings at a filter box: any calls of the box and at the desk, in any order, the box made at any time of any night, and every answer of
 -- the desk told to the box, whoever made the call. 02, #104.
 -- Assumes nothing.
-use Rattle.std.specs.Prelude.{◌≡◌, List, [], ◌∷◌, ◌≢◌, ◌⊎◌, ◌↔◌, ℕ, ◌<◌}
+use Rattle.std.specs.Prelude.{◌≡◌, List, [], ◌∷◌, ◌≢◌, ◌⊎◌, ◌↔◌, ℕ, ◌<◌, Ok, Err, Some}
 use Rattle.desk.specs.Close.{Cancels, Expires}
 use Rattle.desk.specs.Desk.{fresh_desk, ticket_on}
 use Rattle.desk.specs.Open.{Opens}
@@ -9,24 +9,18 @@ use Rattle.desk.specs.Reply.{Replies}
 use Rattle.desk.specs.declared.AfterClose.{AfterClose}
 use Rattle.desk.specs.declared.AfterOpen.{AfterOpen}
 use Rattle.desk.specs.declared.AfterReply.{AfterReply}
-use Rattle.desk.specs.declared.Booking.{Booking}
-use Rattle.desk.specs.declared.Booking.TheVariants.{Booked, Refused as NotBooked}
-use Rattle.desk.specs.declared.Closing.{Closing}
-use Rattle.desk.specs.declared.Closing.TheVariants.{Closed, Refused as NotClosed}
+use Rattle.desk.specs.Answers.{Booking}
+use Rattle.desk.specs.Answers.{Closing}
 use Rattle.desk.specs.declared.Desk.{Desk}
-use Rattle.desk.specs.declared.Opening.{Opening}
-use Rattle.desk.specs.declared.Opening.TheVariants.{Opened as OpenedAt, Refused as NotOpened}
+use Rattle.desk.specs.Answers.{Opening}
 use Rattle.nights.specs.Night.{Call, after_all}
 use Rattle.request.specs.declared.Request.{Request}
 use Rattle.ticket.specs.Ticket.{new_ticket}
 use Rattle.varia.specs.Ask.{SetsEdge, Attenuates, ReadsMonitor, ReadsStatus}
 use Rattle.varia.specs.Box.{fresh_box, edge_of, edge_register, HearsReply, HearsClosing}
 use Rattle.varia.specs.declared.AfterAsk.{AfterAsk}
-use Rattle.varia.specs.declared.Asking.{Asking}
-use Rattle.varia.specs.declared.Asking.TheVariants.{Opened, Refused}
-use Rattle.varia.specs.declared.Edge.TheVariants.{Known}
+use Rattle.varia.specs.Answers.{Asking, sent}
 use Rattle.varia.specs.declared.FilterBox.{FilterBox}
-use Rattle.varia.specs.declared.Out.TheVariants.{Edge}
 use Rattle.varia.specs.declared.Pass.{Pass}
 use Rattle.varia.specs.declared.Pass.TheVariants.{Short, Long}
 
@@ -42,24 +36,24 @@ pub data Event : Type 0 where
   nothing : Event
 
 abbrev pub of_edge : Pass → ℕ → Asking → Event
-of_edge pass tenths (Opened address n) = asked pass tenths address
-of_edge pass tenths (Refused f) = nothing
+of_edge pass tenths (Ok told) = asked pass tenths told.address
+of_edge pass tenths (Err f) = nothing
 
 abbrev pub of_asking : Asking → Event
-of_asking (Opened address n) = opened address
-of_asking (Refused f) = nothing
+of_asking (Ok told) = opened told.address
+of_asking (Err f) = nothing
 
 abbrev pub of_opening : Opening → Event
-of_opening (OpenedAt address n) = opened address
-of_opening (NotOpened f) = nothing
+of_opening (Ok told) = opened told.address
+of_opening (Err f) = nothing
 
 abbrev pub of_booking : Booking → Event
-of_booking (Booked job address sort n folder) = booked address sort
-of_booking (NotBooked f) = nothing
+of_booking (Ok told) = booked told.address told.sort
+of_booking (Err f) = nothing
 
 abbrev pub of_closing : Closing → Event
-of_closing (Closed job address folder) = withdrawn address
-of_closing (NotClosed f) = nothing
+of_closing (Ok closed) = withdrawn closed.address
+of_closing (Err f) = nothing
 
 -- the box, the desk and all that was answered, the latest first, after any calls as their contracts allow them
 pub data Evening (job unit : ℕ) : FilterBox → Desk → List Event → Type 0 where
@@ -134,10 +128,10 @@ KnownAs (e ∷ past) p v =
 
 pub record Promised (job unit : ℕ) (box : FilterBox) (desk : Desk) (past : List Event) : Type 0 where
   -- an edge is known with v exactly if that was acknowledged last, and not given up since
-  pub known : (p : Pass) (v : ℕ) → (edge_of box p ≡ Known v) ↔ KnownAs past p v
+  pub known : (p : Pass) (v : ℕ) → (edge_of box p ≡ Some v) ↔ KnownAs past p v
   -- the box has that request out which is out, and its ticket stands open on its address: of the box's job, at its module, a write to that
   -- edge's register
-  pub is_out_lem : (a : ℕ) (p : Pass) (v : ℕ) → (box.out ≡ Edge a p v) ↔ OutOn past a p v
+  pub is_out_lem : (a : ℕ) (p : Pass) (v : ℕ) → (box.out ≡ sent a p v) ↔ OutOn past a p v
   pub stands : (a : ℕ) (p : Pass) (v : ℕ) → OutOn past a p v
       → (wait : ℕ) × (clock : ℕ)
       × (ticket_on desk a ≡ new_ticket (record { job = job; unit = unit; sort = 5; register = edge_register p; wait = wait; folder = 0 }) clock)

@@ -4,6 +4,7 @@
 use mathlib.Core.Path.{◌≡◌, sym, ap, ◌∙◌}
 use mathlib.Core.List.{List}
 use Prim.Native.Nat.{ℕ}
+use Rattle.bench.specs.Answers.{Seen}
 use Rattle.bench.specs.Take.{Takes}
 use Rattle.bench.specs.declared.Bench.{Bench}
 use Rattle.desk.specs.Open.{Opens}
@@ -17,6 +18,9 @@ use Rattle.scan.specs.Scan.{Steps}
 use Rattle.scan.specs.declared.Scan.{Scan}
 use Rattle.setting.specs.declared.Head.{Head}
 use Rattle.sheet_editor.specs.Editor.{Removes, RemovesModule, Adds}
+use Rattle.sheet_writer.specs.Answers.{Writing as SheetWriting}
+use Rattle.telegram.specs.Answers.{Writing as FrameWriting}
+use Rattle.values.specs.Answers.{Writing as ValueWriting}
 use Rattle.varia.specs.Ask.{SetsEdge, Attenuates, ReadsMonitor, ReadsStatus}
 use Rattle.varia.specs.declared.Pass.{Pass}
 use Rattle.kamzhor.specs.Bench.{GivesBench, GivesAdd, GivesSet, GivesTake, GivesRegister}
@@ -66,6 +70,7 @@ use mathlib.Core.Bool.{Bool}
 use Rattle.bench.specs.Build.{Makes}
 use Rattle.bench.specs.declared.AfterBuild.{AfterBuild}
 use Rattle.bench.specs.declared.AfterTake.{AfterTake}
+use Rattle.catalogue.specs.Answers.{Found}
 use Rattle.catalogue.specs.Catalogue.{Finds}
 use Rattle.desk.specs.Close.{Cancels, Expires}
 use Rattle.desk.specs.declared.AfterClose.{AfterClose}
@@ -78,8 +83,8 @@ use Rattle.lanes.specs.declared.AfterJoin.{AfterJoin}
 use Rattle.lanes.specs.declared.AfterWithdraw.{AfterWithdraw}
 use Rattle.overdue.specs.declared.Swept.{Swept}
 use Rattle.scan.specs.declared.AfterStep.{AfterStep}
-use Rattle.sheet.specs.declared.Checked.{Checked}
-use Rattle.sheet_editor.specs.declared.Editing.{Editing}
+use Rattle.sheet.specs.Answers.{Checked, Reading}
+use Rattle.sheet_editor.specs.Answers.{Editing}
 use Rattle.varia.specs.Display.{TellsMoving, Displays}
 use Rattle.varia.specs.declared.AfterAsk.{AfterAsk}
 use Rattle.varia.specs.declared.FilterBox.{FilterBox}
@@ -94,35 +99,29 @@ use Rattle.kamzhor.specs.declared.host_sheet.CheckAnswer.{CheckAnswer}
 use Rattle.kamzhor.specs.declared.host_values.EntryAnswer.{EntryAnswer}
 use Rattle.bench.specs.Build as building
 use Rattle.bench.specs.Register as benches
-use Rattle.bench.specs.declared.Seen as bench_seen
-use Rattle.catalogue.specs.declared.Found as found
 use Rattle.desk.specs.Desk as desks
 use Rattle.desk.specs.declared.Seen as desk_seen
 use Rattle.lanes.specs.Lanes as in_lanes
 use Rattle.scan.specs.Scan as scans
 use Rattle.scan.specs.declared.Found as scan_found
-use Rattle.sheet.specs.declared.Reading as sheet_reading
-use Rattle.sheet_writer.specs.declared.Writing as sheet_writing
-use Rattle.telegram.specs.declared.Writing as telegram_writing
-use Rattle.values.specs.declared.Writing as values_writing
 use Rattle.varia.specs.Box as boxes
 
 -- ---- writing
 
-pub written_as_called : (destination source sort register : ℕ) (bytes room : List ℕ) (o : telegram_writing.Writing) (r : SizeAnswer) (x y : List ℕ)
+pub written_as_called : (destination source sort register : ℕ) (bytes room : List ℕ) (o : FrameWriting) (r : SizeAnswer) (x y : List ℕ)
     → telegrams.Writes destination source sort register bytes room o x
     → GivesWritten destination source sort register bytes room r y → (r ≡ written_given o) × (y ≡ x)
 written_as_called destination source sort register bytes room =
     as_called_with (telegrams.Writes destination source sort register bytes room) written_given
     (telegram_laws.writes_settled destination source sort register bytes room)
 
-pub stored_as_called : (kind negative magnitude : ℕ) (room : List ℕ) (o : values_writing.Writing) (r : ℕ) (x y : List ℕ)
+pub stored_as_called : (kind negative magnitude : ℕ) (room : List ℕ) (o : ValueWriting) (r : ℕ) (x y : List ℕ)
     → value.Writes kind (value_meant negative magnitude) room o x → GivesStored kind negative magnitude room r y → (r ≡ stored_given o) × (y ≡ x)
 stored_as_called kind negative magnitude room =
     as_called_with (value.Writes kind (value_meant negative magnitude) room) stored_given
     (values_laws.writes_settled kind (value_meant negative magnitude) room)
 
-pub entry_as_called : (model register : ℕ) (o : found.Found) (r : EntryAnswer)
+pub entry_as_called : (model register : ℕ) (o : Found) (r : EntryAnswer)
     → Finds model register o → GivesEntry model register r → r ≡ entry_given o
 entry_as_called model register = as_called (Finds model register) entry_given (catalogue_laws.finds_settled model register)
 
@@ -236,20 +235,20 @@ pub take_as_called : (bench : Bench) (frame room : List ℕ) (o : AfterTake) (r 
     → Takes bench frame room o x → GivesTake bench frame room r y → (r ≡ take_told o) × (y ≡ x)
 take_as_called bench frame room = as_called_with (Takes bench frame room) take_told (bench_laws.takes_settled bench frame room)
 
-pub register_as_called : (bench : Bench) (number : ℕ) (o : bench_seen.Seen) (r : RegisterAnswer)
+pub register_as_called : (bench : Bench) (number : ℕ) (o : Seen) (r : RegisterAnswer)
     → benches.Looks bench number o → GivesRegister bench number r → r ≡ register_given o
 register_as_called bench number = as_called (benches.Looks bench number) register_given (bench_laws.looks_settled bench number)
 
 -- ---- sheets
 
-pub sheet_as_called : (rows values room : List ℕ) (o : sheet_writing.Writing) (r : SizeAnswer) (x y : List ℕ)
+pub sheet_as_called : (rows values room : List ℕ) (o : SheetWriting) (r : SizeAnswer) (x y : List ℕ)
     → writing.Writes rows values room o x → GivesSheet rows values room r y → (r ≡ sheet_given o) × (y ≡ x)
 sheet_as_called rows values room = as_called_with (writing.Writes rows values room) sheet_given (writer_laws.writes_settled rows values room)
 
 pub check_as_called : (sheet : List ℕ) (o : Checked) (r : CheckAnswer) → sheets.Checks sheet o → GivesCheck sheet r → r ≡ check_given o
 check_as_called sheet = as_called (sheets.Checks sheet) check_given (sheet_laws.checks_settled sheet)
 
-pub record_as_called : (sheet : List ℕ) (index : ℕ) (room : List ℕ) (o : sheet_reading.Reading) (r : RecordAnswer) (x y : List ℕ)
+pub record_as_called : (sheet : List ℕ) (index : ℕ) (room : List ℕ) (o : Reading) (r : RecordAnswer) (x y : List ℕ)
     → sheets.Reads sheet index room o x → GivesRecord sheet index room r y → (r ≡ record_given o) × (y ≡ x)
 record_as_called sheet index room = as_called_with (sheets.Reads sheet index room) record_given (sheet_laws.reads_settled sheet index room)
 

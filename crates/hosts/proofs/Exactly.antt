@@ -1,6 +1,7 @@
 -- "Each is given exactly when its condition holds and no earlier one does": of the numbers that C is told, over the same rows as the calls
 -- below. 0 is told exactly where no row holds.
 -- Assumes nothing.
+use Rattle.std.specs.Prelude.{Ok, Err}
 use mathlib.Core.Path.{◌≡◌, refl, sym, ap, ◌∙◌, subst}
 use mathlib.Core.Logic.{◌≢◌, ◌↔◌}
 use mathlib.Core.Option.{some, none}
@@ -12,7 +13,7 @@ use Rattle.bench.specs.Build.{make_rows, add_rows, set_rows}
 use Rattle.bench.proofs.Silence.{silent_number}
 use Rattle.bench.specs.Take.{silence_rows, MeansSilence}
 use Rattle.bench.specs.declared.Bench.{Bench}
-use Rattle.bench.specs.declared.Taking.{Taking}
+use Rattle.bench.specs.Answers.{Taking}
 use Rattle.catalogue.specs.Catalogue.{find_rows}
 use Rattle.desk.specs.Close.{cancel_rows, expire_rows}
 use Rattle.desk.specs.Folder.{IsFolderHeld}
@@ -65,7 +66,6 @@ use Rattle.hosts.proofs.Fields.{open_count_lem}
 use Rattle.hosts.proofs.Told.{numbered_as}
 use Rattle.bench.proofs.Laws as bench
 use Rattle.bench.specs.Register as at_bench
-use Rattle.bench.specs.declared.Taking.TheVariants as takings
 use Rattle.catalogue.proofs.Laws as catalogue
 use Rattle.catalogue.specs.Catalogue as of_catalogue
 use Rattle.desk.proofs.Ranking as desk_ranking
@@ -262,8 +262,8 @@ take_silent held frame room {r} {room'} g n =
     (by g.0.answer refl (λ e. n (ap (λ (a : AfterBenchTake). a.answer.refusal) g.2 ∙ e)))
   where
     by : (a : Taking) → g.0.answer ≡ a → (take_given g.0.answer).refusal ≢ 0 → MeansSilence (take_given g.0.answer).refusal
-    by (takings.Silent f) e m = rw e (silent_number held frame room g.1 f e)
-    by (takings.Answered size) e m = absurd (m (rw e))
+    by (Err f) e m = rw e (silent_number held frame room g.1 f e)
+    by (Ok size) e m = absurd (m (rw e))
 
 -- ---- sheets
 

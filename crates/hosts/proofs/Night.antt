@@ -1,6 +1,7 @@
 -- Whatever a C host calls, its night is a night at the desk: so what is promised of those holds of what C is told.
 -- Assumes nothing.
-use mathlib.Core.Path.{◌≡◌, refl, ◌∙◌}
+use Rattle.std.specs.Prelude.{Ok, Err}
+use mathlib.Core.Path.{◌≡◌, refl}
 use mathlib.Core.Bool.{Bool, true, false, cond}
 use mathlib.Core.List.{List, [], ◌∷◌, ◌++◌}
 use mathlib.Core.Option.{Option, some, none}
@@ -9,10 +10,8 @@ use lib.ListN.{length, take}
 use Rattle.desk.specs.Desk.{fresh_desk}
 use Rattle.desk.specs.Open.{Opens}
 use Rattle.desk.specs.declared.AfterOpen.{AfterOpen}
-use Rattle.desk.specs.declared.Booking.{Booking}
-use Rattle.desk.specs.declared.Closing.{Closing}
+use Rattle.desk.specs.Answers.{Booking, Closing, Opening}
 use Rattle.desk.specs.declared.Desk.{Desk}
-use Rattle.desk.specs.declared.Opening.{Opening}
 use Rattle.lanes.specs.Lanes.{lane_at, waiting_at}
 use Rattle.overdue.specs.Overdue.{told as entered}
 use Rattle.varia.specs.declared.Pass.{Pass}
@@ -48,57 +47,53 @@ use Rattle.kamzhor.specs.declared.host_scan.AfterScanStep.{AfterScanStep}
 use Rattle.hosts.specs.Night.{Called, Made, next, seen_if, seen, close_seen, granted, scan_seen, AllMade, last_desk, all_seen}
 use Rattle.hosts.specs.Night.{opens, replies, cancels, expires, sweeps, grants, sets, attenuates, monitors, looks, steps}
 use Rattle.hosts.proofs.Numbers.{open_number_lem, reply_number_lem, close_number_lem, ask_number_lem, grant_number_lem}
-use Rattle.desk.specs.declared.Booking.TheVariants as bookings
-use Rattle.desk.specs.declared.Closing.TheVariants as closings
-use Rattle.desk.specs.declared.Opening.TheVariants as openings
 use Rattle.lanes.specs.declared.Fault as lanes_fault
 use Rattle.lanes.specs.declared.Fault.TheVariants as lanes_faults
-use Rattle.lanes.specs.declared.Granting.TheVariants as grantings
+use Rattle.lanes.specs.declared.Turn.TheVariants as grantings
 use Rattle.nights.specs.Night as desk_night
 use Rattle.scan.specs.Scan as scanning
 use Rattle.varia.specs.Ask as asking
-use Rattle.varia.specs.declared.Asking.TheVariants as askings
 use Rattle.varia.specs.declared.Fault as varia_fault
 
 -- ---- what C is told of an answer is what the desk's callers see of it
 
 open_seen : (a : Opening) (k : ℕ) (asked : Request) (clock : ℕ)
     → seen_if (told (open_given a k).refusal) (opened (open_given a k).address asked clock) ≡ of_opening a asked clock
-open_seen (openings.Refused f) k asked clock = rw (open_number_lem (openings.Refused f) k)
-open_seen (openings.Opened address n) k asked clock = refl
+open_seen (Err f) k asked clock = rw (open_number_lem (Err f) k)
+open_seen (Ok _) k asked clock = refl
 
 reply_seen : (a : Booking) (frame : List ℕ)
     → seen_if (told (reply_given a).refusal)
     (booked (reply_given a).job (reply_given a).address (fields_in frame).source (reply_given a).sort (fields_in frame).register (reply_given a).folder)
     ≡ of_booking a frame
-reply_seen (bookings.Refused f) frame = rw (reply_number_lem (bookings.Refused f))
-reply_seen (bookings.Booked job address sort n folder) frame = refl
+reply_seen (Err f) frame = rw (reply_number_lem (Err f))
+reply_seen (Ok _) frame = refl
 
 close_seen_lem : (a : Closing) (clock : ℕ) → close_seen (close_given a) clock ≡ of_closing a clock
-close_seen_lem (closings.Refused f) clock = rw (close_number_lem (closings.Refused f))
-close_seen_lem (closings.Closed job address folder) clock = refl
+close_seen_lem (Err f) clock = rw (close_number_lem (Err f))
+close_seen_lem (Ok _) clock = refl
 
 ask_seen : (a : Opening) (k : ℕ) (asked : Request) (clock : ℕ)
     → seen_if (told (ask_given (asking.from_desk a) k).refusal) (opened (ask_given (asking.from_desk a) k).address asked clock) ≡ of_opening a asked clock
-ask_seen (openings.Refused f) k asked clock = rw (ask_number_lem (asking.from_desk (openings.Refused f)) k)
-ask_seen (openings.Opened address n) k asked clock = refl
+ask_seen (Err f) k asked clock = rw (ask_number_lem (asking.from_desk (Err f)) k)
+ask_seen (Ok _) k asked clock = refl
 
 grant_seen : (a : Opening) (job k : ℕ) (asked : Request) (clock : ℕ)
     → seen_if (told (grant_given (from_desk job a) k).refusal) (opened (grant_given (from_desk job a) k).address asked clock) ≡ of_opening a asked clock
-grant_seen (openings.Opened address n) job k asked clock = refl
-grant_seen (openings.Refused f) job k asked clock = by (takes_out f)
+grant_seen (Ok _) job k asked clock = refl
+grant_seen (Err f) job k asked clock = by (takes_out f)
   where
     by : (out : Bool)
-        → seen_if (told (grant_given (cond out (grantings.TakenOut job) (grantings.Refused (lanes_faults.AtDesk f))) k).refusal)
-        (opened (grant_given (cond out (grantings.TakenOut job) (grantings.Refused (lanes_faults.AtDesk f))) k).address asked clock)
+        → seen_if (told (grant_given (cond out (Ok (grantings.TakenOut job)) (Err (lanes_faults.AtDesk f))) k).refusal)
+        (opened (grant_given (cond out (Ok (grantings.TakenOut job)) (Err (lanes_faults.AtDesk f))) k).address asked clock)
         ≡ nothing
     by true = refl
-    by false = rw (grant_number_lem (grantings.Refused (lanes_faults.AtDesk f)) k)
+    by false = rw (grant_number_lem (Err (lanes_faults.AtDesk f)) k)
 
 scan_seen_lem : (a : Opening) (unit k : ℕ) (asked : Request) (clock : ℕ)
     → scan_seen (scan_given (scanning.from_desk unit a) k).state (opened (scan_given (scanning.from_desk unit a) k).address asked clock) ≡ of_opening a asked clock
-scan_seen_lem (openings.Refused f) unit k asked clock = refl
-scan_seen_lem (openings.Opened address n) unit k asked clock = refl
+scan_seen_lem (Err f) unit k asked clock = refl
+scan_seen_lem (Ok _) unit k asked clock = refl
 
 -- ---- a night goes on
 
@@ -117,7 +112,7 @@ asks_on : (own : Option varia_fault.Fault) (box : FilterBox) (to : Opening → F
     (o : AfterAsk) (room' : List ℕ) (past : List Event) → Night desk past → Asks own box to desk asked bytes clock room o room'
     → Night o.desk (seen_if (told (ask_given o.answer o.count).refusal) (opened (ask_given o.answer o.count).address asked clock) ∷ past)
 asks_on (some f) box to desk asked bytes clock room o room' past n p =
-    rw (p.0.0, p.0.2, ask_number_lem (askings.Refused f) o.count) (unseen n)
+    rw (p.0.0, p.0.2, ask_number_lem (Err f) o.count) (unseen n)
 asks_on none box to desk asked bytes clock room o room' past n p =
     rw (p.2.0, p.2.2, ask_seen p.0.answer o.count asked clock) (opens_on desk past n asked bytes clock room p.0 room' p.1)
 
@@ -125,7 +120,7 @@ grants_on : (own : Option lanes_fault.Fault) (lanes : Lanes) (desk : Desk) (cloc
     → Night desk past → GrantsBy own lanes desk clock room o room'
     → Night o.desk (seen_if (told (grant_given o.answer o.count).refusal) (opened (grant_given o.answer o.count).address (granted lanes) clock) ∷ past)
 grants_on (some f) lanes desk clock room o room' past n p =
-    rw (p.0.0, p.0.2, grant_number_lem (grantings.Refused f) o.count) (unseen n)
+    rw (p.0.0, p.0.2, grant_number_lem (Err f) o.count) (unseen n)
 grants_on none lanes desk clock room o room' past n p =
     rw (p.2.0, p.2.2, grant_seen p.0.answer (granted lanes).job o.count (granted lanes) clock)
     (opens_on desk past n (granted lanes) _ clock room p.0 room' p.1)

@@ -1,87 +1,69 @@
 -- No refusal has the number 0: so the number that C is told says whether there was one, and which.
 -- Assumes nothing.
+use Rattle.scan.specs.Answers.{Stepping}
+use Rattle.std.specs.Prelude.{Ok, Err}
 use mathlib.Core.Path.{◌≡◌, refl}
 use mathlib.Core.Option.{some}
 use Prim.Native.Nat.{ℕ}
+use Rattle.bench.specs.Answers.{Building, Taking}
+use Rattle.catalogue.specs.Answers.{Found}
+use Rattle.desk.specs.Answers.{Booking, Closing, Opening}
 use Rattle.kamzhor.specs.Host.{told}
+use Rattle.lanes.specs.Answers.{Joining, Withdrawing, Granting}
+use Rattle.sheet.specs.Answers.{Checked, Reading}
+use Rattle.sheet_editor.specs.Answers.{Editing}
+use Rattle.sheet_writer.specs.Answers.{Writing as SheetWriting}
+use Rattle.telegram.specs.Answers.{Writing as FrameWriting}
+use Rattle.values.specs.Answers.{Writing as ValueWriting}
+use Rattle.varia.specs.Answers.{Asking}
 use Rattle.bench.specs.Register as bench
 use Rattle.bench.specs.Build as bench_build
 use Rattle.bench.specs.Take as bench_take
-use Rattle.bench.specs.declared.Building as building
-use Rattle.bench.specs.declared.Building.TheVariants as buildings
 use Rattle.bench.specs.declared.Fault as bench_fault
 use Rattle.bench.specs.declared.Fault.TheVariants as bench_faults
-use Rattle.bench.specs.declared.Taking as taking
-use Rattle.bench.specs.declared.Taking.TheVariants as takings
 use Rattle.catalogue.specs.Catalogue as catalogue
 use Rattle.catalogue.specs.declared.Fault as catalogue_fault
 use Rattle.catalogue.specs.declared.Fault.TheVariants as catalogue_faults
-use Rattle.catalogue.specs.declared.Found as found
-use Rattle.catalogue.specs.declared.Found.TheVariants as founds
 use Rattle.desk.specs.Close as desk_close
 use Rattle.desk.specs.Desk as desk
 use Rattle.desk.specs.Open as desk_open
 use Rattle.desk.specs.Reply as desk_reply
-use Rattle.desk.specs.declared.Booking as booking
-use Rattle.desk.specs.declared.Booking.TheVariants as bookings
-use Rattle.desk.specs.declared.Closing as closing
-use Rattle.desk.specs.declared.Closing.TheVariants as closings
 use Rattle.desk.specs.declared.Fault as desk_fault
 use Rattle.desk.specs.declared.Fault.TheVariants as desk_faults
-use Rattle.desk.specs.declared.Opening as opening
-use Rattle.desk.specs.declared.Opening.TheVariants as openings
 use Rattle.lanes.specs.Grant as lanes_grant
 use Rattle.lanes.specs.Join as lanes_join
 use Rattle.lanes.specs.Lanes as lanes
 use Rattle.lanes.specs.Withdraw as lanes_withdraw
 use Rattle.lanes.specs.declared.Fault as lanes_fault
 use Rattle.lanes.specs.declared.Fault.TheVariants as lanes_faults
-use Rattle.lanes.specs.declared.Granting as granting
-use Rattle.lanes.specs.declared.Granting.TheVariants as grantings
-use Rattle.lanes.specs.declared.Joining as joining
-use Rattle.lanes.specs.declared.Joining.TheVariants as joinings
-use Rattle.lanes.specs.declared.Withdrawing as withdrawing
-use Rattle.lanes.specs.declared.Withdrawing.TheVariants as withdrawings
+use Rattle.lanes.specs.declared.Turn as granting
+use Rattle.lanes.specs.declared.Turn.TheVariants as grantings
 use Rattle.request.specs.Request as request
 use Rattle.request.specs.declared.Fault as request_fault
 use Rattle.request.specs.declared.Fault.TheVariants as request_faults
 use Rattle.scan.specs.Scan as scan
-use Rattle.scan.specs.declared.Stepping as stepping
-use Rattle.scan.specs.declared.Stepping.TheVariants as steppings
+use Rattle.scan.specs.declared.Stage as stepping
+use Rattle.scan.specs.declared.Stage.TheVariants as steppings
 use Rattle.setting.specs.Setting as setting
 use Rattle.setting.specs.declared.Fault as setting_fault
 use Rattle.setting.specs.declared.Fault.TheVariants as setting_faults
 use Rattle.sheet.specs.Sheet as sheet
-use Rattle.sheet.specs.declared.Checked as checked
-use Rattle.sheet.specs.declared.Checked.TheVariants as checkeds
-use Rattle.sheet.specs.declared.Reading as reading
-use Rattle.sheet.specs.declared.Reading.TheVariants as readings
 use Rattle.sheet_editor.specs.Editor as editor
-use Rattle.sheet_editor.specs.declared.Editing as editing
-use Rattle.sheet_editor.specs.declared.Editing.TheVariants as editings
 use Rattle.sheet_editor.specs.declared.Fault as editor_fault
 use Rattle.sheet_editor.specs.declared.Fault.TheVariants as editor_faults
 use Rattle.sheet_writer.specs.Writer as sheet_writer_lem
-use Rattle.sheet_writer.specs.declared.Writing as sheet_writing
-use Rattle.sheet_writer.specs.declared.Writing.TheVariants as sheet_writings
 use Rattle.telegram.specs.Read as telegram
 use Rattle.telegram.specs.Write as telegram_write
 use Rattle.telegram.specs.declared.Fault as telegram_fault
 use Rattle.telegram.specs.declared.Fault.TheVariants as telegram_faults
-use Rattle.telegram.specs.declared.Writing as telegram_writing
-use Rattle.telegram.specs.declared.Writing.TheVariants as telegram_writings
 use Rattle.ticket.specs.Fit as ticket
 use Rattle.ticket.specs.declared.Fault as ticket_fault
 use Rattle.ticket.specs.declared.Fault.TheVariants as ticket_faults
 use Rattle.values.specs.Values as values
 use Rattle.values.specs.declared.Fault as values_fault
 use Rattle.values.specs.declared.Fault.TheVariants as values_faults
-use Rattle.values.specs.declared.Writing as values_writing
-use Rattle.values.specs.declared.Writing.TheVariants as values_writings
 use Rattle.varia.specs.Ask as varia_ask
 use Rattle.varia.specs.Box as varia
-use Rattle.varia.specs.declared.Asking as asking
-use Rattle.varia.specs.declared.Asking.TheVariants as askings
 use Rattle.varia.specs.declared.Fault as varia_fault
 use Rattle.varia.specs.declared.Fault.TheVariants as varia_faults
 use Rattle.kamzhor.specs.Bench as of_host_bench
@@ -189,73 +171,73 @@ of_edit editor_faults.NoRoom = refl
 
 -- ---- of each answer: what C is told is what the call below tells
 
-pub written_number : (w : telegram_writing.Writing) → told (host_values.written_given w).refusal ≡ telegram_write.write_told w
-written_number (telegram_writings.Refused f) = unread f
-written_number (telegram_writings.Written n) = refl
+pub written_number : (w : FrameWriting) → told (host_values.written_given w).refusal ≡ telegram_write.write_told w
+written_number (Err f) = unread f
+written_number (Ok n) = refl
 
-pub stored_number : (w : values_writing.Writing) → told (host_values.stored_given w) ≡ values.write_told w
-stored_number (values_writings.Refused f) = of_value f
-stored_number values_writings.Done = refl
+pub stored_number : (w : ValueWriting) → told (host_values.stored_given w) ≡ values.write_told w
+stored_number (Err f) = of_value f
+stored_number (Ok _) = refl
 
-pub entry_number : (e : found.Found) → told (host_values.entry_given e).refusal ≡ catalogue.find_told e
-entry_number (founds.Refused f) = of_row f
-entry_number (founds.Is e) = refl
+pub entry_number : (e : Found) → told (host_values.entry_given e).refusal ≡ catalogue.find_told e
+entry_number (Err f) = of_row f
+entry_number (Ok e) = refl
 
-pub open_number_lem : (o : opening.Opening) (considered : ℕ) → told (of_host_desk.open_given o considered).refusal ≡ desk_open.open_told o
-open_number_lem (openings.Refused f) considered = at_desk_lem f
-open_number_lem (openings.Opened address n) considered = refl
+pub open_number_lem : (o : Opening) (considered : ℕ) → told (of_host_desk.open_given o considered).refusal ≡ desk_open.open_told o
+open_number_lem (Err f) considered = at_desk_lem f
+open_number_lem (Ok opened) considered = refl
 
-pub reply_number_lem : (o : booking.Booking) → told (of_host_desk.reply_given o).refusal ≡ desk_reply.book_told o
-reply_number_lem (bookings.Refused f) = at_desk_lem f
-reply_number_lem (bookings.Booked job address sort n folder) = refl
+pub reply_number_lem : (o : Booking) → told (of_host_desk.reply_given o).refusal ≡ desk_reply.book_told o
+reply_number_lem (Err f) = at_desk_lem f
+reply_number_lem (Ok booked) = refl
 
-pub close_number_lem : (o : closing.Closing) → told (of_host_desk.close_given o).refusal ≡ desk_close.close_told o
-close_number_lem (closings.Refused f) = at_desk_lem f
-close_number_lem (closings.Closed job address folder) = refl
+pub close_number_lem : (o : Closing) → told (of_host_desk.close_given o).refusal ≡ desk_close.close_told o
+close_number_lem (Err f) = at_desk_lem f
+close_number_lem (Ok closed) = refl
 
-pub join_number_lem : (o : joining.Joining) → told (host_lanes.join_given o).refusal ≡ lanes_join.join_told o
-join_number_lem (joinings.Refused f) = in_lanes f
-join_number_lem (joinings.Joined lane place) = refl
+pub join_number_lem : (o : Joining) → told (host_lanes.join_given o).refusal ≡ lanes_join.join_told o
+join_number_lem (Err f) = in_lanes f
+join_number_lem (Ok joined) = refl
 
-pub grant_number_lem : (o : granting.Granting) (considered : ℕ) → told (host_lanes.grant_given o considered).refusal ≡ lanes_grant.grant_told o
-grant_number_lem (grantings.Refused f) considered = in_lanes f
-grant_number_lem (grantings.TakenOut job) considered = refl
-grant_number_lem (grantings.Granted job address n) considered = refl
+pub grant_number_lem : (o : Granting) (considered : ℕ) → told (host_lanes.grant_given o considered).refusal ≡ lanes_grant.grant_told o
+grant_number_lem (Err f) considered = in_lanes f
+grant_number_lem (Ok (grantings.TakenOut job)) considered = refl
+grant_number_lem (Ok (grantings.Granted job address n)) considered = refl
 
-pub withdraw_number : (o : withdrawing.Withdrawing) → told (host_lanes.withdraw_given o) ≡ lanes_withdraw.withdraw_told o
-withdraw_number (withdrawings.Refused f) = in_lanes f
-withdraw_number withdrawings.Done = refl
+pub withdraw_number : (o : Withdrawing) → told (host_lanes.withdraw_given o) ≡ lanes_withdraw.withdraw_told o
+withdraw_number (Err f) = in_lanes f
+withdraw_number (Ok _) = refl
 
-pub ask_number_lem : (o : asking.Asking) (considered : ℕ) → told (host_filters.ask_given o considered).refusal ≡ varia_ask.ask_told o
-ask_number_lem (askings.Refused f) considered = at_box f
-ask_number_lem (askings.Opened address n) considered = refl
+pub ask_number_lem : (o : Asking) (considered : ℕ) → told (host_filters.ask_given o considered).refusal ≡ varia_ask.ask_told o
+ask_number_lem (Err f) considered = at_box f
+ask_number_lem (Ok opened) considered = refl
 
-pub scan_number : (o : stepping.Stepping) (considered : ℕ) → told (host_scan.scan_given o considered).refusal ≡ scan.step_told o
-scan_number (steppings.Refused f) considered = at_desk_lem f
-scan_number (steppings.Asked address unit n) considered = refl
-scan_number (steppings.Waiting address) considered = refl
-scan_number steppings.Done considered = refl
+pub scan_number : (o : Stepping) (considered : ℕ) → told (host_scan.scan_given o considered).refusal ≡ scan.step_told o
+scan_number (Err f) considered = at_desk_lem f
+scan_number (Ok (steppings.Asked address unit n)) considered = refl
+scan_number (Ok (steppings.Waiting address)) considered = refl
+scan_number (Ok steppings.Done) considered = refl
 
-pub build_number : (o : building.Building) → told (of_host_bench.build_given o) ≡ bench_build.build_told o
-build_number (buildings.Refused f) = at_bench f
-build_number buildings.Done = refl
+pub build_number : (o : Building) → told (of_host_bench.build_given o) ≡ bench_build.build_told o
+build_number (Err f) = at_bench f
+build_number (Ok _) = refl
 
-pub take_number_lem : (o : taking.Taking) → told (of_host_bench.take_given o).refusal ≡ bench_take.take_told o
-take_number_lem (takings.Silent f) = at_bench f
-take_number_lem (takings.Answered n) = refl
+pub take_number_lem : (o : Taking) → told (of_host_bench.take_given o).refusal ≡ bench_take.take_told o
+take_number_lem (Err f) = at_bench f
+take_number_lem (Ok n) = refl
 
-pub sheet_number_lem : (o : sheet_writing.Writing) → told (host_sheet.sheet_given o).refusal ≡ sheet_writer_lem.write_told o
-sheet_number_lem (sheet_writings.Refused f) = of_setting f
-sheet_number_lem (sheet_writings.Written n) = refl
+pub sheet_number_lem : (o : SheetWriting) → told (host_sheet.sheet_given o).refusal ≡ sheet_writer_lem.write_told o
+sheet_number_lem (Err f) = of_setting f
+sheet_number_lem (Ok n) = refl
 
-pub check_number : (o : checked.Checked) → told (host_sheet.check_given o).refusal ≡ sheet.check_told o
-check_number (checkeds.Refused f) = of_setting f
-check_number (checkeds.Right n) = refl
+pub check_number : (o : Checked) → told (host_sheet.check_given o).refusal ≡ sheet.check_told o
+check_number (Err f) = of_setting f
+check_number (Ok n) = refl
 
-pub record_number : (o : reading.Reading) → told (host_sheet.record_given o).refusal ≡ sheet.read_told o
-record_number (readings.Refused f) = of_setting f
-record_number (readings.Is r) = refl
+pub record_number : (o : Reading) → told (host_sheet.record_given o).refusal ≡ sheet.read_told o
+record_number (Err f) = of_setting f
+record_number (Ok r) = refl
 
-pub edit_number : (o : editing.Editing) → told (host_sheet.edit_given o).refusal ≡ editor.edit_told o
-edit_number (editings.Refused f) = of_edit f
-edit_number (editings.Edited n) = refl
+pub edit_number : (o : Editing) → told (host_sheet.edit_given o).refusal ≡ editor.edit_told o
+edit_number (Err f) = of_edit f
+edit_number (Ok n) = refl

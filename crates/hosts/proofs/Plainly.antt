@@ -2,7 +2,7 @@
 -- Assumes nothing.
 use mathlib.Core.Path.{◌≡◌, refl, ap, ◌∙◌, subst}
 use mathlib.Core.Bool.{Bool, true, false}
-use mathlib.Core.List.{List, [], ◌∷◌}
+use mathlib.Core.List.{List, []}
 use mathlib.Core.Logic.{◌≢◌}
 use mathlib.Core.Option.{none}
 use Prim.Native.Nat.{ℕ, ◌≤◌}
@@ -34,7 +34,7 @@ use Rattle.kamzhor.specs.declared.host_desk.SeenAnswer.{SeenAnswer}
 use Rattle.kamzhor.specs.declared.host_lanes.AfterLanesGrant.{AfterLanesGrant}
 use Rattle.kamzhor.specs.declared.host_scan.AfterScanStep.{AfterScanStep}
 use Rattle.varia.specs.declared.Pass.{Pass}
-use Rattle.hosts.specs.Night.{Called, grants, sets, steps, granted, opens, replies, cancels, expires, seen, AllMade, last_desk, all_seen}
+use Rattle.hosts.specs.Night.{Called, grants, sets, steps, granted, opens, replies, cancels, expires, AllMade, last_desk, all_seen}
 use Rattle.hosts.proofs.Night.{goes_on, host_night}
 
 -- what looking shows of an open ticket is that ticket

@@ -1,18 +1,28 @@
 -- "It returns its number only, and every buffer, ticket and register and the desk's turn are as before": of every call of the C host whose
 -- refusal is not 0. Every other field of the answer is 0, but for the place with 3, the count of addresses (02, #108), and the job with 75.
 -- Assumes nothing.
+use Rattle.scan.specs.Answers.{Stepping}
+use Rattle.std.specs.Prelude.{Ok, Err}
 use mathlib.Core.Path.{◌≡◌, refl, ap, ◌∙◌, subst}
 use mathlib.Core.List.{List}
 use mathlib.Core.Logic.{◌≢◌}
 use mathlib.Core.Option.{Option, some, none}
 use Prim.Native.Nat.{ℕ}
+use Rattle.bench.specs.Answers.{Building, Taking}
 use Rattle.bench.specs.Register.{empty_bench}
 use Rattle.bench.specs.declared.Bench.{Bench}
+use Rattle.catalogue.specs.Answers.{Found}
+use Rattle.desk.specs.Answers.{Booking, Closing, Opening}
 use Rattle.desk.specs.declared.Desk.{Desk}
+use Rattle.lanes.specs.Answers.{Joining, Withdrawing, Granting}
 use Rattle.lanes.specs.declared.Lanes.{Lanes}
 use Rattle.request.specs.declared.Request.{Request}
 use Rattle.scan.specs.declared.Scan.{Scan}
 use Rattle.setting.specs.declared.Head.{Head}
+use Rattle.sheet.specs.Answers.{Checked, Reading}
+use Rattle.sheet_editor.specs.Answers.{Editing}
+use Rattle.sheet_writer.specs.Answers.{Writing}
+use Rattle.varia.specs.Answers.{Asking}
 use Rattle.varia.specs.declared.AfterAsk.{AfterAsk}
 use Rattle.varia.specs.declared.Pass.{Pass}
 use Rattle.kamzhor.specs.Bench.{GivesBench, GivesAdd, GivesSet, GivesTake, build_given, take_number, take_given}
@@ -40,56 +50,30 @@ use Rattle.kamzhor.specs.declared.host_sheet.RecordAnswer.{RecordAnswer}
 use Rattle.kamzhor.specs.declared.host_values.EntryAnswer.{EntryAnswer}
 use Rattle.kamzhor.specs.declared.host_values.SizeAnswer.{SizeAnswer}
 use Rattle.bench.proofs.Laws as bench
-use Rattle.bench.specs.declared.Building as building
-use Rattle.bench.specs.declared.Building.TheVariants as buildings
 use Rattle.bench.specs.declared.Fault as bench_fault
-use Rattle.bench.specs.declared.Taking as taking
-use Rattle.bench.specs.declared.Taking.TheVariants as takings
-use Rattle.catalogue.specs.declared.Found as found
-use Rattle.catalogue.specs.declared.Found.TheVariants as founds
 use Rattle.desk.proofs.Laws as desk_laws
-use Rattle.desk.specs.declared.Booking as booking
-use Rattle.desk.specs.declared.Booking.TheVariants as bookings
-use Rattle.desk.specs.declared.Closing as closing
-use Rattle.desk.specs.declared.Closing.TheVariants as closings
 use Rattle.desk.specs.declared.Fault as desk_fault
-use Rattle.desk.specs.declared.Opening as opening
-use Rattle.desk.specs.declared.Opening.TheVariants as openings
 use Rattle.lanes.proofs.Laws as lanes_laws
 use Rattle.lanes.specs.declared.Fault as lanes_fault
-use Rattle.lanes.specs.declared.Granting as granting
-use Rattle.lanes.specs.declared.Granting.TheVariants as grantings
-use Rattle.lanes.specs.declared.Joining as joining
-use Rattle.lanes.specs.declared.Joining.TheVariants as joinings
-use Rattle.lanes.specs.declared.Withdrawing as withdrawing
-use Rattle.lanes.specs.declared.Withdrawing.TheVariants as withdrawings
+use Rattle.lanes.specs.declared.Turn as granting
+use Rattle.lanes.specs.declared.Turn.TheVariants as grantings
 use Rattle.scan.proofs.Laws as scan_laws
-use Rattle.scan.specs.declared.Stepping as stepping
-use Rattle.scan.specs.declared.Stepping.TheVariants as steppings
+use Rattle.scan.specs.declared.Stage as stepping
+use Rattle.scan.specs.declared.Stage.TheVariants as steppings
 use Rattle.setting.specs.declared.Fault as setting_fault
 use Rattle.sheet.proofs.Laws as sheet_laws
 use Rattle.sheet.specs.Sheet as sheet
-use Rattle.sheet.specs.declared.Checked as checked
-use Rattle.sheet.specs.declared.Checked.TheVariants as checkeds
-use Rattle.sheet.specs.declared.Reading as reading
-use Rattle.sheet.specs.declared.Reading.TheVariants as readings
 use Rattle.sheet_editor.proofs.Laws as editor_laws
 use Rattle.sheet_editor.specs.Editor as editor
-use Rattle.sheet_editor.specs.declared.Editing as editing
-use Rattle.sheet_editor.specs.declared.Editing.TheVariants as editings
 use Rattle.sheet_editor.specs.declared.Fault as editor_fault
 use Rattle.sheet_writer.proofs.Laws as writer_laws
 use Rattle.sheet_writer.specs.Writer as writer
-use Rattle.sheet_writer.specs.declared.Writing as sheet_writing
-use Rattle.sheet_writer.specs.declared.Writing.TheVariants as sheet_writings
 use Rattle.telegram.specs.Read as telegram
 use Rattle.telegram.specs.Write as telegram_write
 use Rattle.telegram.specs.declared.Fault as telegram_fault
 use Rattle.values.specs.Values as values
 use Rattle.values.specs.declared.Fault as values_fault
 use Rattle.varia.proofs.Laws as varia_laws
-use Rattle.varia.specs.declared.Asking as asking
-use Rattle.varia.specs.declared.Asking.TheVariants as askings
 use Rattle.varia.specs.declared.Fault as varia_fault
 
 -- every other field is 0, written out
@@ -105,10 +89,10 @@ number_fields n job k = (refl, refl, refl, refl, refl, refl, refl)
 
 -- ---- the desk
 
-open_was : (a : opening.Opening) (k : ℕ) → (open_given a k).refusal ≢ 0
-    → (open_given a k ≡ open_number (open_given a k).refusal k) × ((f : desk_fault.Fault) × (a ≡ openings.Refused f))
-open_was (openings.Refused f) k n = (refl, (f, refl))
-open_was (openings.Opened address size) k n = absurd (n refl)
+open_was : (a : Opening) (k : ℕ) → (open_given a k).refusal ≢ 0
+    → (open_given a k ≡ open_number (open_given a k).refusal k) × ((f : desk_fault.Fault) × (a ≡ Err f))
+open_was (Err f) k n = (refl, (f, refl))
+open_was (Ok opened) k n = absurd (n refl)
 
 pub open_refused_lem : (desk : Desk) (asked : Request) (bytes : List ℕ) (clock : ℕ) (room : List ℕ) {r : AfterDeskOpen} {room' : List ℕ}
     → GivesOpen desk asked bytes clock room r room' → r.answer.refusal ≢ 0
@@ -122,10 +106,10 @@ open_refused_lem desk asked bytes clock room {r} {room'} g n =
       kept.1,
     )
 
-reply_was : (a : booking.Booking) → (reply_given a).refusal ≢ 0
-    → (reply_given a ≡ reply_number (reply_given a).refusal (reply_given a).place) × ((f : desk_fault.Fault) × (a ≡ bookings.Refused f))
-reply_was (bookings.Refused f) n = (refl, (f, refl))
-reply_was (bookings.Booked job address sort size folder) n = absurd (n refl)
+reply_was : (a : Booking) → (reply_given a).refusal ≢ 0
+    → (reply_given a ≡ reply_number (reply_given a).refusal (reply_given a).place) × ((f : desk_fault.Fault) × (a ≡ Err f))
+reply_was (Err f) n = (refl, (f, refl))
+reply_was (Ok booked) n = absurd (n refl)
 
 pub reply_refused_lem : (desk : Desk) (frame room : List ℕ) {r : AfterDeskReply} {room' : List ℕ} → GivesReply desk frame room r room' → r.answer.refusal ≢ 0
     → (r.answer ≡ reply_number r.answer.refusal r.answer.place) × (r.desk ≡ desk) × (room' ≡ room)
@@ -135,10 +119,10 @@ reply_refused_lem desk frame room {r} {room'} g n =
     let kept = desk_laws.reply_refusal_keeps desk frame room g.0 room' g.1 was.1.0 was.1.1 in
     (rw is was.0, ap (λ (a : AfterDeskReply). a.desk) g.2 ∙ kept.0, kept.1)
 
-close_was : (a : closing.Closing) → (close_given a).refusal ≢ 0
-    → (close_given a ≡ close_number (close_given a).refusal) × ((f : desk_fault.Fault) × (a ≡ closings.Refused f))
-close_was (closings.Refused f) n = (refl, (f, refl))
-close_was (closings.Closed job address folder) n = absurd (n refl)
+close_was : (a : Closing) → (close_given a).refusal ≢ 0
+    → (close_given a ≡ close_number (close_given a).refusal) × ((f : desk_fault.Fault) × (a ≡ Err f))
+close_was (Err f) n = (refl, (f, refl))
+close_was (Ok closed) n = absurd (n refl)
 
 pub cancel_refused_lem : (desk : Desk) (job address clock : ℕ) {r : AfterDeskClose} → GivesCancel desk job address clock r → r.answer.refusal ≢ 0
     → (r.answer ≡ close_number r.answer.refusal) × (r.desk ≡ desk)
@@ -160,10 +144,10 @@ expire_refused_lem desk clock {r} g n =
 
 -- ---- the lanes
 
-join_was : (a : joining.Joining) → (join_given a).refusal ≢ 0
-    → (join_given a ≡ join_number (join_given a).refusal) × ((f : lanes_fault.Fault) × (a ≡ joinings.Refused f))
-join_was (joinings.Refused f) n = (refl, (f, refl))
-join_was (joinings.Joined lane place) n = absurd (n refl)
+join_was : (a : Joining) → (join_given a).refusal ≢ 0
+    → (join_given a ≡ join_number (join_given a).refusal) × ((f : lanes_fault.Fault) × (a ≡ Err f))
+join_was (Err f) n = (refl, (f, refl))
+join_was (Ok joined) n = absurd (n refl)
 
 pub join_refused : (lanes : Lanes) (asked : Request) (bytes : List ℕ) {r : AfterLanesJoin} → GivesJoin lanes asked bytes r → r.answer.refusal ≢ 0
     → (r.answer ≡ join_number r.answer.refusal) × (r.lanes ≡ lanes)
@@ -174,11 +158,11 @@ join_refused lanes asked bytes {r} g n =
       ap (λ (a : AfterLanesJoin). a.lanes) g.2 ∙ lanes_laws.join_refusal_keeps lanes asked bytes g.0 was.1.0 g.1 was.1.1,
     )
 
-grant_was : (a : granting.Granting) (k : ℕ) → (grant_given a k).refusal ≢ 0
+grant_was : (a : Granting) (k : ℕ) → (grant_given a k).refusal ≢ 0
     → grant_given a k ≡ grant_number (grant_given a k).refusal (grant_given a k).job (grant_given a k).considered
-grant_was (grantings.Refused f) k n = refl
-grant_was (grantings.TakenOut job) k n = refl
-grant_was (grantings.Granted job address size) k n = absurd (n refl)
+grant_was (Err f) k n = refl
+grant_was (Ok (grantings.TakenOut job)) k n = refl
+grant_was (Ok (grantings.Granted job address size)) k n = absurd (n refl)
 
 -- with 75 the request of the job that is told was taken out of its lane, and desk and buffer stay; with any other number the lanes stay too
 pub grant_refused : (lanes : Lanes) (desk : Desk) (clock : ℕ) (room : List ℕ) (r : AfterLanesGrant) (room' : List ℕ)
@@ -197,18 +181,18 @@ grant_refused lanes desk clock room r room' g n =
       λ other. ap (λ (a : AfterLanesGrant). a.lanes) g.2 ∙ kept.2 (rw is at other),
     )
   where
-    by : (a : granting.Granting) → g.0.answer ≡ a → (grant_given g.0.answer g.0.count).refusal ≢ 0
+    by : (a : Granting) → g.0.answer ≡ a → (grant_given g.0.answer g.0.count).refusal ≢ 0
         → (g.0.desk ≡ desk) × (room' ≡ room) × ((grant_given g.0.answer g.0.count).refusal ≢ 75 → g.0.lanes ≡ lanes)
-    by (grantings.Refused f) e m =
+    by (Err f) e m =
         let kept = lanes_laws.grant_refusal_keeps lanes desk clock room g.0 room' f g.1 e in (kept.1, kept.2, λ other. kept.0)
-    by (grantings.TakenOut job) e m =
+    by (Ok (grantings.TakenOut job)) e m =
         let kept = lanes_laws.taken_out_keeps lanes desk clock room g.0 room' g.1 job e in
         (kept.1, kept.2, λ other. absurd (other (rw e)))
-    by (grantings.Granted job address size) e m = absurd (m (rw e))
+    by (Ok (grantings.Granted job address size)) e m = absurd (m (rw e))
 
-withdraw_was : (a : withdrawing.Withdrawing) → withdraw_given a ≢ 0 → (f : lanes_fault.Fault) × (a ≡ withdrawings.Refused f)
-withdraw_was (withdrawings.Refused f) n = (f, refl)
-withdraw_was withdrawings.Done n = absurd (n refl)
+withdraw_was : (a : Withdrawing) → withdraw_given a ≢ 0 → (f : lanes_fault.Fault) × (a ≡ Err f)
+withdraw_was (Err f) n = (f, refl)
+withdraw_was (Ok _) n = absurd (n refl)
 
 pub withdraw_refused : (lanes : Lanes) (job at : ℕ) {r : AfterLanesWithdraw} → GivesWithdraw lanes job at r → r.refusal ≢ 0 → r.lanes ≡ lanes
 withdraw_refused lanes job at {r} g n =
@@ -218,10 +202,10 @@ withdraw_refused lanes job at {r} g n =
 
 -- ---- the box: it comes back as the numbers of the same box
 
-ask_was : (a : asking.Asking) (k : ℕ) → (ask_given a k).refusal ≢ 0
-    → (ask_given a k ≡ open_number (ask_given a k).refusal k) × ((f : varia_fault.Fault) × (a ≡ askings.Refused f))
-ask_was (askings.Refused f) k n = (refl, (f, refl))
-ask_was (askings.Opened address size) k n = absurd (n refl)
+ask_was : (a : Asking) (k : ℕ) → (ask_given a k).refusal ≢ 0
+    → (ask_given a k ≡ open_number (ask_given a k).refusal k) × ((f : varia_fault.Fault) × (a ≡ Err f))
+ask_was (Err f) k n = (refl, (f, refl))
+ask_was (Ok opened) k n = absurd (n refl)
 
 abbrev BoxKept : HostBox → Desk → List ℕ → AfterBoxAsk → List ℕ → Type 0
 BoxKept filters desk room r room' =
@@ -232,7 +216,7 @@ BoxKept filters desk room r room' =
 
 module _ (filters : HostBox) (desk : Desk) (wait clock : ℕ) (room : List ℕ) (r : AfterBoxAsk) (room' : List ℕ) where
   ask_refused : (o : AfterAsk) → r ≡ ask_told o → r.answer.refusal ≢ 0
-      → ((f : varia_fault.Fault) → o.answer ≡ askings.Refused f → (o.filters ≡ box_meant filters) × (o.desk ≡ desk) × (room' ≡ room))
+      → ((f : varia_fault.Fault) → o.answer ≡ Err f → (o.filters ≡ box_meant filters) × (o.desk ≡ desk) × (room' ≡ room))
       → BoxKept filters desk room r room'
   ask_refused o told n keeps =
       let is : r.answer ≡ ask_given o.answer o.count = ap (λ (a : AfterBoxAsk). a.answer) told in
@@ -262,13 +246,13 @@ module _ (filters : HostBox) (desk : Desk) (wait clock : ℕ) (room : List ℕ) 
 
 -- ---- the scan
 
-scan_was : (a : stepping.Stepping) (k : ℕ) → (scan_given a k).refusal ≢ 0
+scan_was : (a : Stepping) (k : ℕ) → (scan_given a k).refusal ≢ 0
     → (scan_given a k ≡ record { refusal = (scan_given a k).refusal; state = 0; address = 0; unit = 0; considered = k; size = 0 })
-    × ((f : desk_fault.Fault) × (a ≡ steppings.Refused f))
-scan_was (steppings.Refused f) k n = (refl, (f, refl))
-scan_was (steppings.Asked address unit size) k n = absurd (n refl)
-scan_was (steppings.Waiting address) k n = absurd (n refl)
-scan_was steppings.Done k n = absurd (n refl)
+    × ((f : desk_fault.Fault) × (a ≡ Err f))
+scan_was (Err f) k n = (refl, (f, refl))
+scan_was (Ok (steppings.Asked address unit size)) k n = absurd (n refl)
+scan_was (Ok (steppings.Waiting address)) k n = absurd (n refl)
+scan_was (Ok steppings.Done) k n = absurd (n refl)
 
 pub scan_refused : (scan : Scan) (desk : Desk) (clock : ℕ) (room : List ℕ) (r : AfterScanStep) (room' : List ℕ)
     → GivesScanStep scan desk clock room r room' → r.answer.refusal ≢ 0
@@ -288,9 +272,9 @@ scan_refused scan desk clock room r room' g n =
 
 -- ---- the bench
 
-build_was : (a : building.Building) → build_given a ≢ 0 → (f : bench_fault.Fault) × (a ≡ buildings.Refused f)
-build_was (buildings.Refused f) n = (f, refl)
-build_was buildings.Done n = absurd (n refl)
+build_was : (a : Building) → build_given a ≢ 0 → (f : bench_fault.Fault) × (a ≡ Err f)
+build_was (Err f) n = (f, refl)
+build_was (Ok _) n = absurd (n refl)
 
 -- a bench that is not made has address 0, which no telegram is for
 pub make_refused : (address : ℕ) {r : AfterBenchBuild} → GivesBench address r → r.refusal ≢ 0 → r.bench ≡ empty_bench 0
@@ -312,10 +296,10 @@ set_refused held number negative magnitude {r} g n =
     let was = build_was g.0.answer (rw is at n) in
     ap (λ (a : AfterBenchBuild). a.bench) g.2 ∙ bench.set_refused held number (value_meant negative magnitude) was.0 g.1 was.1
 
-take_was : (a : taking.Taking) → (take_given a).refusal ≢ 0
-    → (take_given a ≡ take_number (take_given a).refusal (take_given a).place) × ((f : bench_fault.Fault) × (a ≡ takings.Silent f))
-take_was (takings.Silent f) n = (refl, (f, refl))
-take_was (takings.Answered size) n = absurd (n refl)
+take_was : (a : Taking) → (take_given a).refusal ≢ 0
+    → (take_given a ≡ take_number (take_given a).refusal (take_given a).place) × ((f : bench_fault.Fault) × (a ≡ Err f))
+take_was (Err f) n = (refl, (f, refl))
+take_was (Ok size) n = absurd (n refl)
 
 pub take_refused : (held : Bench) (frame room : List ℕ) {r : AfterBenchTake} {room' : List ℕ} → GivesTake held frame room r room' → r.answer.refusal ≢ 0
     → (r.answer ≡ take_number r.answer.refusal r.answer.place) × (r.bench ≡ held) × (room' ≡ room)
@@ -354,57 +338,57 @@ pub entry_refused : (model register : ℕ) {r : EntryAnswer} → GivesEntry mode
     → r ≡ record { refusal = r.refusal; kind = 0; writable = 0; lowest = 0; highest = 0 }
 entry_refused model register {r} g n = rw g.2 (by g.0 (rw g.2 at n))
   where
-    by : (e : found.Found) → (entry_given e).refusal ≢ 0
+    by : (e : Found) → (entry_given e).refusal ≢ 0
         → entry_given e ≡ record { refusal = (entry_given e).refusal; kind = 0; writable = 0; lowest = 0; highest = 0 }
-    by (founds.Refused f) m = refl
-    by (founds.Is e) m = absurd (m refl)
+    by (Err f) m = refl
+    by (Ok e) m = absurd (m refl)
 
 -- ---- sheets
 
-sheet_was : (a : sheet_writing.Writing) → (sheet_given a).refusal ≢ 0
-    → (sheet_given a ≡ size_number (sheet_given a).refusal) × ((f : setting_fault.Fault) × (a ≡ sheet_writings.Refused f))
-sheet_was (sheet_writings.Refused f) n = (refl, (f, refl))
-sheet_was (sheet_writings.Written size) n = absurd (n refl)
+sheet_was : (a : Writing) → (sheet_given a).refusal ≢ 0
+    → (sheet_given a ≡ size_number (sheet_given a).refusal) × ((f : setting_fault.Fault) × (a ≡ Err f))
+sheet_was (Err f) n = (refl, (f, refl))
+sheet_was (Ok size) n = absurd (n refl)
 
 pub sheet_refused : (rows values room : List ℕ) {r : SizeAnswer} {room' : List ℕ} → GivesSheet rows values room r room' → r.refusal ≢ 0
     → (r ≡ size_number r.refusal) × (room' ≡ room)
 sheet_refused rows values room {r} {room'} g n =
     let was = sheet_was g.0 (rw g.2 at n) in (
       rw g.2 was.0,
-      writer_laws.write_refusal_keeps rows values room was.1.0 room' (subst (λ (a : sheet_writing.Writing). writer.Writes rows values room a room') was.1.1 g.1),
+      writer_laws.write_refusal_keeps rows values room was.1.0 room' (subst (λ (a : Writing). writer.Writes rows values room a room') was.1.1 g.1),
     )
 
 pub check_refused : (bytes : List ℕ) {r : CheckAnswer} → GivesCheck bytes r → r.refusal ≢ 0 → r ≡ record { refusal = r.refusal; count = 0 }
 check_refused bytes {r} g n = rw g.2 (by g.0 (rw g.2 at n))
   where
-    by : (a : checked.Checked) → (check_given a).refusal ≢ 0 → check_given a ≡ record { refusal = (check_given a).refusal; count = 0 }
-    by (checkeds.Refused f) m = refl
-    by (checkeds.Right count) m = absurd (m refl)
+    by : (a : Checked) → (check_given a).refusal ≢ 0 → check_given a ≡ record { refusal = (check_given a).refusal; count = 0 }
+    by (Err f) m = refl
+    by (Ok count) m = absurd (m refl)
 
-record_was : (a : reading.Reading) → (record_given a).refusal ≢ 0
-    → (record_given a ≡ record { refusal = (record_given a).refusal; head = record { unit = 0; register = 0; kind = 0; count = 0 }; size = 0 }) × ((f : setting_fault.Fault) × (a ≡ readings.Refused f))
-record_was (readings.Refused f) n = (refl, (f, refl))
-record_was (readings.Is r) n = absurd (n refl)
+record_was : (a : Reading) → (record_given a).refusal ≢ 0
+    → (record_given a ≡ record { refusal = (record_given a).refusal; head = record { unit = 0; register = 0; kind = 0; count = 0 }; size = 0 }) × ((f : setting_fault.Fault) × (a ≡ Err f))
+record_was (Err f) n = (refl, (f, refl))
+record_was (Ok r) n = absurd (n refl)
 
 pub record_refused : (bytes : List ℕ) (index : ℕ) (room : List ℕ) {r : RecordAnswer} {room' : List ℕ} → GivesRecord bytes index room r room' → r.refusal ≢ 0
     → (r ≡ record { refusal = r.refusal; head = record { unit = 0; register = 0; kind = 0; count = 0 }; size = 0 }) × (room' ≡ room)
 record_refused bytes index room {r} {room'} g n =
     let was = record_was g.0 (rw g.2 at n) in (
       rw g.2 was.0,
-      sheet_laws.read_refusal_keeps bytes index room was.1.0 room' (subst (λ (a : reading.Reading). sheet.Reads bytes index room a room') was.1.1 g.1),
+      sheet_laws.read_refusal_keeps bytes index room was.1.0 room' (subst (λ (a : Reading). sheet.Reads bytes index room a room') was.1.1 g.1),
     )
 
-edit_was : (a : editing.Editing) → (edit_given a).refusal ≢ 0
-    → (edit_given a ≡ size_number (edit_given a).refusal) × ((f : editor_fault.Fault) × (a ≡ editings.Refused f))
-edit_was (editings.Refused f) n = (refl, (f, refl))
-edit_was (editings.Edited size) n = absurd (n refl)
+edit_was : (a : Editing) → (edit_given a).refusal ≢ 0
+    → (edit_given a ≡ size_number (edit_given a).refusal) × ((f : editor_fault.Fault) × (a ≡ Err f))
+edit_was (Err f) n = (refl, (f, refl))
+edit_was (Ok size) n = absurd (n refl)
 
 pub removed_refused : (room : List ℕ) (size index : ℕ) {r : SizeAnswer} {room' : List ℕ} → GivesRemoved room size index r room' → r.refusal ≢ 0
     → (r ≡ size_number r.refusal) × (room' ≡ room)
 removed_refused room size index {r} {room'} g n =
     let was = edit_was g.0 (rw g.2 at n) in (
       rw g.2 was.0,
-      editor_laws.remove_refusal_keeps room size index was.1.0 room' (subst (λ (a : editing.Editing). editor.Removes room size index a room') was.1.1 g.1),
+      editor_laws.remove_refusal_keeps room size index was.1.0 room' (subst (λ (a : Editing). editor.Removes room size index a room') was.1.1 g.1),
     )
 
 pub module_removed_refused : (room : List ℕ) (size unit : ℕ) {r : SizeAnswer} {room' : List ℕ} → GivesModuleRemoved room size unit r room' → r.refusal ≢ 0
@@ -412,7 +396,7 @@ pub module_removed_refused : (room : List ℕ) (size unit : ℕ) {r : SizeAnswer
 module_removed_refused room size unit {r} {room'} g n =
     let was = edit_was g.0 (rw g.2 at n) in (
       rw g.2 was.0,
-      editor_laws.module_refusal_keeps room size unit was.1.0 room' (subst (λ (a : editing.Editing). editor.RemovesModule room size unit a room') was.1.1 g.1),
+      editor_laws.module_refusal_keeps room size unit was.1.0 room' (subst (λ (a : Editing). editor.RemovesModule room size unit a room') was.1.1 g.1),
     )
 
 pub added_refused : (room : List ℕ) (size : ℕ) (named : Head) (value : List ℕ) {r : SizeAnswer} {room' : List ℕ} → GivesAdded room size named value r room'
@@ -421,5 +405,5 @@ added_refused room size named value {r} {room'} g n =
     let was = edit_was g.0 (rw g.2 at n) in (
       rw g.2 was.0,
       editor_laws.add_refusal_keeps room size named value was.1.0 room'
-          (subst (λ (a : editing.Editing). editor.Adds room size named value a room') was.1.1 g.1),
+          (subst (λ (a : Editing). editor.Adds room size named value a room') was.1.1 g.1),
     )

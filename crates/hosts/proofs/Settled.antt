@@ -1,6 +1,5 @@
 -- "Show that any two outcomes allowed by it are equal": every call of the C host is settled, as the call below it is.
 -- Assumes nothing.
-use mathlib.Core.Path.{◌≡◌}
 use mathlib.Core.List.{List}
 use Prim.Native.Nat.{ℕ}
 use Rattle.rows.proofs.Settled.{settled}

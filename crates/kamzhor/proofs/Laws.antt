@@ -1,5 +1,6 @@
 -- What is promised to the C capture host: the laws that callers may cite.
 -- Assumes nothing.
+use Rattle.std.specs.Prelude.{Ok, Err}
 use mathlib.Core.Path.{◌≡◌, refl, sym, ap, ◌∙◌, subst}
 use mathlib.Core.Bool.{Bool, true, false}
 use mathlib.Core.List.{List, [], ◌∷◌}
@@ -19,11 +20,13 @@ use Rattle.rows.specs.Rows.{passed_up, raised, Numbered}
 use Rattle.rows.proofs.Laws.{numbered, clash}
 use Rattle.remainder.specs.Remainder.{Remains}
 use Rattle.telegram.specs.Read.{read_frame, read_refusal, room_after, fields_in, data_in}
+use Rattle.telegram.specs.Answers.{Reading as FrameReading}
 use Rattle.telegram.specs.declared.Fields.{Fields}
 use Rattle.telegram.specs.declared.Fault.TheVariants.{NotFramed, StrayEnd, BadSubstitution, ShortMessage, LongMessage, NoRoom, CheckFault, ZeroAddress, UnknownType}
 use Rattle.values.specs.Values.{read_value, is_kind, natural, element_of, size_of, is_signed, sizes, value_at, integer}
 use Rattle.values.proofs.Sized.{kind_unknown, size-le, half_le, kind_positive, power_half}
 use Rattle.values.proofs.Refusals.{read_is, read_none}
+use Rattle.values.specs.Answers.{Reading as ValueReading}
 use Rattle.values.specs.declared.Value.{Value}
 use Rattle.values.specs.declared.Value.TheVariants.{Natural, Negative}
 use Rattle.receiver.specs.Receiver.{Starts}
@@ -41,14 +44,10 @@ use Rattle.kamzhor.specs.declared.StepAnswer.{StepAnswer}
 use Rattle.telegram.specs.Read as telegram
 use Rattle.telegram.proofs.Ranking as ranking
 use Rattle.telegram.specs.declared.Fault as tfault
-use Rattle.telegram.specs.declared.Reading as treading
-use Rattle.telegram.specs.declared.Reading.TheVariants.{Telegram, Refused}
 use Rattle.values.specs.Values as values
 use Rattle.values.proofs.Laws as value_laws
 use Rattle.values.specs.declared.Fault as vfault
 use Rattle.values.specs.declared.Fault.TheVariants as vfaults
-use Rattle.values.specs.declared.Reading as vreading
-use Rattle.values.specs.declared.Reading.TheVariants as vreadings
 
 -- ---- "Show that any two outcomes allowed by it are equal."
 
@@ -74,7 +73,7 @@ pub no_size : (kind : ℕ) → 7 < kind → size_of kind ≡ 0
 unfolding size_of
 no_size kind h = get_or-eq_default sizes 0 {n = kind} (omega arith)
 
-pub unknown_kind : (kind : ℕ) (bytes : List ℕ) (element : ℕ) → 7 < kind → read_value kind bytes element ≡ vreadings.Refused vfaults.UnknownKind
+pub unknown_kind : (kind : ℕ) (bytes : List ℕ) (element : ℕ) → 7 < kind → read_value kind bytes element ≡ Err vfaults.UnknownKind
 unfolding read_value values.read_refusal
 unknown_kind kind bytes element h = rw (kind_unknown kind 0 (sym (no_size kind h)) refl)
 
@@ -87,7 +86,7 @@ small_at true n v p h = elim (dec_lt v (2 ^ (8 * n - 1))) [
   | no l ↦ rw (le-ltb v (2 ^ (8 * n - 1)) (omega arith)) (omega (arith, pow_pos (8 * n - 1), power_half n p, half_le n h))
 ]
 
-pub read_small : (kind : ℕ) (bytes : List ℕ) (element : ℕ) (value : Value) → read_value kind bytes element ≡ vreadings.Is value → is_small value
+pub read_small : (kind : ℕ) (bytes : List ℕ) (element : ℕ) (value : Value) → read_value kind bytes element ≡ Ok value → is_small value
 read_small kind bytes element value e =
     let is = read_is kind bytes element value e in
     let some : 0 < size_of kind = kind_positive kind (read_none kind bytes element is.0).0 in
@@ -98,16 +97,16 @@ read_small kind bytes element value e =
 pub remainder_as_told : (bytes : List ℕ) {r n : ℕ} → Remains bytes n → GivesRemainder bytes r → r ≡ n
 remainder_as_told bytes p g = g ∙ sym p
 
-pub frame_as_read : (frame room : List ℕ) {q : treading.Reading} {r : FrameAnswer} {x y : List ℕ}
+pub frame_as_read : (frame room : List ℕ) {q : FrameReading} {r : FrameAnswer} {x y : List ℕ}
     → telegram.Reads frame room q x → GivesFrame frame room r y → (r ≡ frame_given q) × (y ≡ x)
 frame_as_read frame room p g = (g.0 ∙ ap frame_given (sym p.0), g.1 ∙ sym p.1)
 
 -- field by field
-pub frame_fields_lem : (frame room : List ℕ) (t : Fields) {r : FrameAnswer} {room' : List ℕ} → GivesFrame frame room r room' → read_frame frame (length room) ≡ Telegram t
+pub frame_fields_lem : (frame room : List ℕ) (t : Fields) {r : FrameAnswer} {room' : List ℕ} → GivesFrame frame room r room' → read_frame frame (length room) ≡ Ok t
     → (r.refusal ≡ 0) × (r.destination ≡ t.destination) × (r.source ≡ t.source) × (r.sort ≡ t.sort) × (r.register ≡ t.register) × (r.size ≡ t.size)
 frame_fields_lem frame room t gives read = rw (gives.0 ∙ ap frame_given read) (refl, refl, refl, refl, refl, refl)
 
-pub value_as_read : (kind : ℕ) (bytes : List ℕ) (element : ℕ) {q : vreading.Reading} {r : ValueAnswer}
+pub value_as_read : (kind : ℕ) (bytes : List ℕ) (element : ℕ) {q : ValueReading} {r : ValueAnswer}
     → values.Reads kind bytes element q → GivesValue kind bytes element r → r ≡ value_given q
 value_as_read kind bytes element p g = g ∙ ap value_given (sym p)
 
@@ -178,9 +177,9 @@ frame_refused frame room {r} g n =
     let only = only_frame (read_refusal frame (length room)) (fields_in frame) (data_in frame) room (rw g.0 at n) in
     (subst (λ (a : FrameAnswer). a ≡ frame_number a.refusal a.place) (sym g.0) only.0, g.1 ∙ only.1)
 
-only_value : (q : vreading.Reading) → (value_given q).refusal ≢ 0 → value_given q ≡ value_number (value_given q).refusal
-only_value (vreadings.Refused f) n = refl
-only_value (vreadings.Is v) n = absurd (n refl)
+only_value : (q : ValueReading) → (value_given q).refusal ≢ 0 → value_given q ≡ value_number (value_given q).refusal
+only_value (Err f) n = refl
+only_value (Ok v) n = absurd (n refl)
 
 pub value_refused : (kind : ℕ) (bytes : List ℕ) (element : ℕ) {r : ValueAnswer} → GivesValue kind bytes element r → r.refusal ≢ 0
     → r ≡ value_number r.refusal
@@ -206,20 +205,20 @@ value_number_only kind bytes element {r} g n =
     (ap (λ (a : ValueAnswer). a.negative) is, ap (λ (a : ValueAnswer). a.magnitude) is)
 
 -- 02, #105: the place is the reader's, with 3, and 0 with all else
-place_read : (q : treading.Reading) → (frame_given q).place ≡ telegram.read_place q
-place_read (Refused f) = refl
-place_read (Telegram t) = refl
+place_read : (q : FrameReading) → (frame_given q).place ≡ telegram.read_place q
+place_read (Err f) = refl
+place_read (Ok t) = refl
 
-three_read : (q : treading.Reading) → (frame_given q).refusal ≡ 3 → telegram.read_told q ≡ some 3
-three_read (Refused f) e = ap some e
-three_read (Telegram t) e = absurd (omega arith)
+three_read : (q : FrameReading) → (frame_given q).refusal ≡ 3 → telegram.read_told q ≡ some 3
+three_read (Err f) e = ap some e
+three_read (Ok t) e = absurd (omega arith)
 
-read_three : (q : treading.Reading) → telegram.read_told q ≡ some 3 → (frame_given q).refusal ≡ 3
-read_three (Refused f) e = some_is e
+read_three : (q : FrameReading) → telegram.read_told q ≡ some 3 → (frame_given q).refusal ≡ 3
+read_three (Err f) e = some_is e
   where
     some_is : {m n : ℕ} → ◌≡◌ {A = Option ℕ} (some m) (some n) → m ≡ n
     some_is p = cc
-read_three (Telegram t) e = clash (cc)
+read_three (Ok t) e = clash (cc)
 
 pub frame_place : (frame room : List ℕ) {r : FrameAnswer} {room' : List ℕ} → GivesFrame frame room r room' → r.refusal ≡ 3
     → telegram.FirstFaulty frame r.place
@@ -248,5 +247,5 @@ meant_found (Natural n) = refl
 meant_found (Negative n) = ap (λ (k : ℕ). neg_ℤ (pos k)) (add-one n)
 
 pub value_meant_lem : (kind : ℕ) (bytes : List ℕ) (element : ℕ) {r : ValueAnswer} {v : Value} → GivesValue kind bytes element r
-    → read_value kind bytes element ≡ vreadings.Is v → meant r ≡ integer v
+    → read_value kind bytes element ≡ Ok v → meant r ≡ integer v
 value_meant_lem kind bytes element {r} {v} g e = ap meant (g ∙ ap value_given e) ∙ meant_found v

@@ -9,7 +9,7 @@ use Rattle.values.specs.Values.{size_of, write_refusal, room_after, Writes}
 use Rattle.values.proofs.Sized.{kind_unknown}
 use Rattle.values.specs.declared.Fault.TheVariants.{UnknownKind}
 use Rattle.values.specs.declared.Value.{Value}
-use Rattle.values.specs.declared.Writing.{Writing}
+use Rattle.values.specs.Answers.{Writing}
 use Rattle.kamzhor.proofs.Laws.{no_size}
 
 zero_size : size_of 0 ≡ 0

@@ -1,5 +1,6 @@
 -- What the C capture host may count on at each step, whatever receiver, tally and chunk it hands over.
 -- Assumes nothing.
+use Rattle.std.specs.Prelude.{Ok, Err, Some, None}
 use mathlib.Core.Path.{◌≡◌, refl, sym, ap, ◌∙◌, subst}
 use mathlib.Core.Bool.{Bool, true, false, cond}
 use mathlib.Core.List.{List, [], ◌∷◌, ◌++◌}
@@ -17,8 +18,7 @@ use Rattle.telegram.specs.Read as telegram
 use Rattle.telegram.specs.declared.Fault.{Fault as Unreadable}
 use Rattle.telegram.specs.declared.Fields.{Fields}
 use Rattle.telegram.specs.declared.Fault.TheVariants.{LongMessage}
-use Rattle.telegram.specs.declared.Reading.{Reading}
-use Rattle.telegram.specs.declared.Reading.TheVariants as reading
+use Rattle.telegram.specs.Answers.{Reading}
 use Rattle.lines.specs.declared.Event.{Event}
 use Rattle.lines.specs.declared.Event.TheVariants as event
 use Rattle.lines.specs.declared.Placed.{Placed}
@@ -27,15 +27,13 @@ use Rattle.receiver.specs.Receiver.{CarriesPast, is_inside, ran_away, kept, clos
 use Rattle.receiver.specs.Receiver as receiver
 use Rattle.receiver.specs.declared.Receiver.{Receiver}
 use Rattle.receiver.specs.declared.Fault.TheVariants.{PastLargest}
-use Rattle.receiver.specs.declared.Answer.{Answer as Ended}
-use Rattle.receiver.specs.declared.Answer.TheVariants as ended
+use Rattle.receiver.specs.Answers.{Answer as Ended}
 use Rattle.receiver.specs.declared.Stepped.{Stepped as Ran}
 use Rattle.receiver.proofs.Goes.{step_goes, step_takes}
 use Rattle.tally.specs.Tally.{IsTallyFull, number_for, fault_number, step_rows, step_refusal, stepped_by, tally_by, with_end}
 use Rattle.tally.specs.Tally as tally
 use Rattle.tally.specs.Count.{passed_on, step_with, tally_with}
-use Rattle.tally.specs.declared.Answer.{Answer}
-use Rattle.tally.specs.declared.Answer.TheVariants.{Nothing, Line, Refused}
+use Rattle.tally.specs.Answers.{Answer}
 use Rattle.tally.specs.declared.Fault.{Fault}
 use Rattle.tally.specs.declared.Fault.TheVariants.{TallyFull, NotPlaced}
 use Rattle.tally.specs.declared.Tally.{Tally}
@@ -46,17 +44,17 @@ use Rattle.kamzhor.specs.declared.StepAnswer.{StepAnswer}
 -- ---- a step that goes on is not refused on its way, and its line's frame was read, refused or dropped
 
 abbrev Plain : Ended → Type 0
-Plain ended.Nothing = Unit {0}
-Plain (ended.Refused f) = ⊥
-Plain (ended.Line e) = line_kind e.event ≤ 3
+Plain (Ok None) = Unit {0}
+Plain (Err f) = ⊥
+Plain (Ok (Some e)) = line_kind e.event ≤ 3
 
 plain_long : (long : Bool) (e : Event) → line_kind e ≤ 3 → line_kind (cond long (event.Refused LongMessage) e) ≤ 3
 plain_long true e h = omega arith
 plain_long false e h = h
 
 plain_read : (q : Reading) → line_kind (read_event q) ≤ 3
-plain_read (reading.Telegram t) = omega arith
-plain_read (reading.Refused f) = omega arith
+plain_read (Ok t) = omega arith
+plain_read (Err f) = omega arith
 
 plain_closed : (r : Receiver) → line_kind (closing r) ≤ 3
 unfolding closing frame_event
@@ -69,16 +67,16 @@ unfolding receiver.told
 plain_told r b = go (is_inside r) (eqb b 13) (eqb b 10)
   where
     go : (inside start end : Bool)
-        → Plain (cond inside (cond start (ended.Line (placed r.start event.Dropped)) (cond end (ended.Line (placed r.start (closing r))) ended.Nothing)) ended.Nothing)
+        → Plain (cond inside (cond start (Ok (Some (placed r.start event.Dropped))) (cond end (Ok (Some (placed r.start (closing r)))) (Ok None))) (Ok None))
     go false start end = tt
     go true true end = omega arith
     go true false true = plain_closed r
     go true false false = tt
 
 plain_end : (a : Ended) (r : Receiver) (later : Ran) → Plain a → Plain later.answer → Plain (end_or a r later).answer
-plain_end (ended.Line e) r later p q = p
-plain_end ended.Nothing r later p q = q
-plain_end (ended.Refused f) r later p q = absurd p
+plain_end (Ok (Some e)) r later p q = p
+plain_end (Ok None) r later p q = q
+plain_end (Err f) r later p q = absurd p
 
 plain_step : (r : Receiver) (chunk : List ℕ) → Plain (step_from r chunk).answer
 unfolding step_from
@@ -86,18 +84,18 @@ plain_step r [] = tt
 plain_step r (b ∷ rest) = plain_end (receiver.told r b) (next r b) (step_from (next r b) rest) (plain_told r b) (plain_step (next r b) rest)
 
 plain_line : (r : Receiver) (taken : ℕ) (a : Ended) → Plain a → ((answer_given r taken (tally.told a)).refusal ≡ 0) × ((answer_given r taken (tally.told a)).line ≤ 3)
-plain_line r taken ended.Nothing p = (refl, omega arith)
-plain_line r taken (ended.Refused f) p = absurd p
-plain_line r taken (ended.Line e) p = (refl, p)
+plain_line r taken (Ok None) p = (refl, omega arith)
+plain_line r taken (Err f) p = absurd p
+plain_line r taken (Ok (Some e)) p = (refl, p)
 
 plain_given : (r : Receiver) (chunk : List ℕ) → ((step_given (passed_on (step_from r chunk))).refusal ≡ 0) × ((step_given (passed_on (step_from r chunk))).line ≤ 3)
 plain_given r chunk = let s = step_from r chunk in plain_line s.receiver s.taken s.answer (plain_step r chunk)
 
 -- how much was taken, and the receiver, are told as they are
 as_they_are : (r : Receiver) (taken : ℕ) (a : Answer) → ((answer_given r taken a).taken ≡ taken) × ((answer_given r taken a).receiver ≡ r)
-as_they_are r taken Nothing = (refl, refl)
-as_they_are r taken (Refused f) = (refl, refl)
-as_they_are r taken (Line e) = (refl, refl)
+as_they_are r taken (Ok None) = (refl, refl)
+as_they_are r taken (Err f) = (refl, refl)
+as_they_are r taken (Ok (Some e)) = (refl, refl)
 
 -- what holds of a refused step and the tally as it was, and of one that is done and the tally with its line, holds of every step
 each_step : (P : StepAnswer → Tally → Type 0) (r : Receiver) (t : Tally) (chunk : List ℕ) → ((f : Fault) → P (no_line r 0 (fault_number f)) t)
@@ -128,7 +126,7 @@ step_exactly r t chunk gives =
 -- the rows written out: the line that the bytes would end, wherever they lie, and where its number is full
 pub step_plainly : (r : Receiver) (t : Tally) (chunk : List ℕ) {a : StepAnswer} {t' : Tally} → GivesStep r t chunk a t'
     → Numbered
-    (row ((line : Placed) × ((step_from r chunk).answer ≡ ended.Line line) × (4294967295 < number_for line.event t + 1)) 76
+    (row ((line : Placed) × ((step_from r chunk).answer ≡ Ok (Some line)) × (4294967295 < number_for line.event t + 1)) 76
     ∷ row (18446744073709551615 < r.place + length chunk) 60 ∷ [])
     (76 ∷ 60 ∷ []) (told a.refusal)
 unfolding step_rows IsTallyFull CarriesPast
@@ -193,9 +191,9 @@ counts_event event.Dropped t = (sym (add-zero t.read), sym (add-zero t.refused),
 counts_event event.Open t = counts_none t
 
 counts_end : (r : Receiver) (taken : ℕ) (a : Ended) (t : Tally) → CountsLine (answer_given r taken (tally.told a)).line t (with_end a t)
-counts_end r taken ended.Nothing t = counts_none t
-counts_end r taken (ended.Refused f) t = counts_none t
-counts_end r taken (ended.Line e) t = counts_event e.event t
+counts_end r taken (Ok None) t = counts_none t
+counts_end r taken (Err f) t = counts_none t
+counts_end r taken (Ok (Some e)) t = counts_event e.event t
 
 pub step_counts : (r : Receiver) (t : Tally) (chunk : List ℕ) {a : StepAnswer} {t' : Tally} → GivesStep r t chunk a t'
     → (t'.read ≡ t.read + one_if a.line 1) × (t'.refused ≡ t.refused + one_if a.line 2) × (t'.dropped ≡ t.dropped + one_if a.line 3)
@@ -209,29 +207,29 @@ module _ (r : Receiver) (t : Tally) (chunk : List ℕ) {a : StepAnswer} {t' : Ta
   given : {what : Answer} → (step_with t r chunk).answer ≡ what → a ≡ answer_given (step_with t r chunk).receiver (step_with t r chunk).taken what
   given e = gives.0 ∙ ap (answer_given (step_with t r chunk).receiver (step_with t r chunk).taken) e
 
-  pub line_none : (step_with t r chunk).answer ≡ Nothing → (a.refusal ≡ 0) × (a.line ≡ 0) × (a.place ≡ 0)
+  pub line_none : (step_with t r chunk).answer ≡ Ok None → (a.refusal ≡ 0) × (a.line ≡ 0) × (a.place ≡ 0)
       × (a.frame ≡ record { refusal = 0; destination = 0; source = 0; sort = 0; register = 0; size = 0; place = 0 })
   line_none e = rw (given e) (refl, refl, refl, refl)
 
-  pub line_read : (place : ℕ) (f : Fields) → (step_with t r chunk).answer ≡ Line (placed place (event.Read f)) → (a.refusal ≡ 0) × (a.line ≡ 1) × (a.place ≡ place)
+  pub line_read : (place : ℕ) (f : Fields) → (step_with t r chunk).answer ≡ Ok (Some (placed place (event.Read f))) → (a.refusal ≡ 0) × (a.line ≡ 1) × (a.place ≡ place)
       × (a.frame ≡ record { refusal = 0; destination = f.destination; source = f.source; sort = f.sort; register = f.register; size = f.size; place = 0 })
   line_read place f e = rw (given e) (refl, refl, refl, refl)
 
-  pub line_refused : (place : ℕ) (f : Unreadable) → (step_with t r chunk).answer ≡ Line (placed place (event.Refused f))
+  pub line_refused : (place : ℕ) (f : Unreadable) → (step_with t r chunk).answer ≡ Ok (Some (placed place (event.Refused f)))
       → (a.refusal ≡ 0) × (a.line ≡ 2) × (a.place ≡ place)
       × (a.frame ≡ record { refusal = telegram.fault_number f; destination = 0; source = 0; sort = 0; register = 0; size = 0; place = telegram.fault_place f })
   line_refused place f e = rw (given e) (refl, refl, refl, refl)
 
-  pub line_dropped : (place : ℕ) → (step_with t r chunk).answer ≡ Line (placed place event.Dropped)
+  pub line_dropped : (place : ℕ) → (step_with t r chunk).answer ≡ Ok (Some (placed place event.Dropped))
       → (a.refusal ≡ 0) × (a.line ≡ 3) × (a.place ≡ place)
       × (a.frame ≡ record { refusal = 0; destination = 0; source = 0; sort = 0; register = 0; size = 0; place = 0 })
   line_dropped place e = rw (given e) (refl, refl, refl, refl)
 
   -- the tally with each
-  pub none_keeps : (step_with t r chunk).answer ≡ Nothing → t' ≡ t
+  pub none_keeps : (step_with t r chunk).answer ≡ Ok None → t' ≡ t
   none_keeps e = silent_keeps t r chunk {s = step_with t r chunk} (refl, gives.1) e
 
-  pub refused_keeps : (f : Fault) → (step_with t r chunk).answer ≡ Refused f → (a.refusal ≡ fault_number f) × (t' ≡ t) × (a.receiver ≡ r) × (a.taken ≡ 0)
+  pub refused_keeps : (f : Fault) → (step_with t r chunk).answer ≡ Err f → (a.refusal ≡ fault_number f) × (t' ≡ t) × (a.receiver ≡ r) × (a.taken ≡ 0)
   refused_keeps f e =
       let keeps = refusal_keeps t r chunk (step_with t r chunk) t' f (refl, gives.1) e in
       let is = given e in (
@@ -241,7 +239,7 @@ module _ (r : Receiver) (t : Tally) (chunk : List ℕ) {a : StepAnswer} {t' : Ta
         ap (λ (a : StepAnswer). a.taken) is ∙ keeps.2,
       )
 
-  pub line_adds : (line : Placed) → (step_with t r chunk).answer ≡ Line line
+  pub line_adds : (line : Placed) → (step_with t r chunk).answer ≡ Ok (Some line)
       → (t'.read ≡ t.read + is_ok line.event) × (t'.refused ≡ t.refused + is_refused line.event) × (t'.dropped ≡ t.dropped + is_dropped line.event)
   line_adds line e = line_counted_lem t r chunk {s = step_with t r chunk} line (refl, gives.1) e
 

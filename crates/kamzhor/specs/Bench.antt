@@ -1,18 +1,13 @@
 -- What the C host is answered by a bench: numbers only.
 -- Assumes nothing.
-use Rattle.std.specs.Prelude.{List, ℕ}
+use Rattle.std.specs.Prelude.{List, ℕ, Ok, Err, Some, None}
 use Rattle.bench.specs.Build.{Makes, Adds, Sets}
 use Rattle.bench.specs.Register.{Looks, fault_number, fault_place}
 use Rattle.bench.specs.Take.{Takes}
 use Rattle.bench.specs.declared.AfterBuild.{AfterBuild}
 use Rattle.bench.specs.declared.AfterTake.{AfterTake}
 use Rattle.bench.specs.declared.Bench.{Bench}
-use Rattle.bench.specs.declared.Building.{Building}
-use Rattle.bench.specs.declared.Building.TheVariants as building
-use Rattle.bench.specs.declared.Seen.{Seen}
-use Rattle.bench.specs.declared.Seen.TheVariants as seen
-use Rattle.bench.specs.declared.Taking.{Taking}
-use Rattle.bench.specs.declared.Taking.TheVariants as taking
+use Rattle.bench.specs.Answers.{Building, Seen, Taking}
 use Rattle.kamzhor.specs.Told.{Told}
 use Rattle.kamzhor.specs.Values.{value_meant}
 use Rattle.kamzhor.specs.declared.host_bench.AfterBenchBuild.{AfterBenchBuild}
@@ -23,8 +18,8 @@ use Rattle.kamzhor.specs.declared.host_bench.TakeAnswer.{TakeAnswer}
 -- ---- building
 
 abbrev pub build_given : Building → ℕ
-build_given (building.Refused f) = fault_number f
-build_given building.Done = 0
+build_given (Err f) = fault_number f
+build_given (Ok _) = 0
 
 abbrev pub build_told : AfterBuild → AfterBenchBuild
 build_told o = record { bench = o.bench; refusal = build_given o.answer }
@@ -35,8 +30,8 @@ abbrev pub take_number : ℕ → ℕ → TakeAnswer
 take_number n place = record { refusal = n; size = 0; place = place }
 
 abbrev pub take_given : Taking → TakeAnswer
-take_given (taking.Silent f) = take_number (fault_number f) (fault_place f)
-take_given (taking.Answered n) = record { refusal = 0; size = n; place = 0 }
+take_given (Err f) = take_number (fault_number f) (fault_place f)
+take_given (Ok n) = record { refusal = 0; size = n; place = 0 }
 
 abbrev pub take_told : AfterTake → AfterBenchTake
 take_told o = record { bench = o.bench; answer = take_given o.answer }
@@ -44,8 +39,8 @@ take_told o = record { bench = o.bench; answer = take_given o.answer }
 -- ---- a register: 1 where it is held
 
 abbrev pub register_given : Seen → RegisterAnswer
-register_given (seen.Held g) = record { held = 1; number = g.number; kind = g.kind; rights = g.rights; value = g.value }
-register_given seen.NotHeld = record { held = 0; number = 0; kind = 0; rights = 0; value = 0 }
+register_given (Some g) = record { held = 1; number = g.number; kind = g.kind; rights = g.rights; value = g.value }
+register_given None = record { held = 0; number = 0; kind = 0; rights = 0; value = 0 }
 
 -- ---- the contracts
 

@@ -1,6 +1,6 @@
 -- What the C host is answered by the desk: numbers only. Each answer is what the desk's own call answers, told in numbers.
 -- Assumes nothing.
-use Rattle.std.specs.Prelude.{◌≡◌, cond, List, ℕ, eqb}
+use Rattle.std.specs.Prelude.{◌≡◌, cond, List, ℕ, eqb, Ok, Err}
 use Rattle.desk.specs.Close.{Cancels, Expires}
 use Rattle.desk.specs.Desk.{fresh_desk, Looks, fault_number, fault_place}
 use Rattle.desk.specs.Open.{Opens}
@@ -8,14 +8,9 @@ use Rattle.desk.specs.Reply.{Replies}
 use Rattle.desk.specs.declared.AfterClose.{AfterClose}
 use Rattle.desk.specs.declared.AfterOpen.{AfterOpen}
 use Rattle.desk.specs.declared.AfterReply.{AfterReply}
-use Rattle.desk.specs.declared.Booking.{Booking}
-use Rattle.desk.specs.declared.Booking.TheVariants as booking
-use Rattle.desk.specs.declared.Closing.{Closing}
-use Rattle.desk.specs.declared.Closing.TheVariants as closing
+use Rattle.desk.specs.Answers.{Opening, Booking, booking, Closing, closing}
 use Rattle.desk.specs.declared.Desk.{Desk}
 use Rattle.desk.specs.declared.Fault.TheVariants.{NothingDue}
-use Rattle.desk.specs.declared.Opening.{Opening}
-use Rattle.desk.specs.declared.Opening.TheVariants as opening
 use Rattle.desk.specs.declared.Seen.{Seen}
 use Rattle.desk.specs.declared.Seen.TheVariants as seen
 use Rattle.overdue.specs.Overdue.{ExpiresAll}
@@ -39,8 +34,8 @@ abbrev pub open_number : ℕ → ℕ → OpenAnswer
 open_number n considered = record { refusal = n; address = 0; considered = considered; size = 0 }
 
 abbrev pub open_given : Opening → ℕ → OpenAnswer
-open_given (opening.Refused f) considered = open_number (fault_number f) considered
-open_given (opening.Opened address n) considered = record { refusal = 0; address = address; considered = considered; size = n }
+open_given (Err f) considered = open_number (fault_number f) considered
+open_given (Ok opened) considered = record { refusal = 0; address = opened.address; considered = considered; size = opened.size }
 
 abbrev pub open_told : AfterOpen → AfterDeskOpen
 open_told o = record { desk = o.desk; answer = open_given o.answer o.count }
@@ -52,9 +47,9 @@ abbrev pub reply_number : ℕ → ℕ → ReplyAnswer
 reply_number n place = record { refusal = n; job = 0; folder = 0; address = 0; sort = 0; size = 0; place = place }
 
 abbrev pub reply_given : Booking → ReplyAnswer
-reply_given (booking.Refused f) = reply_number (fault_number f) (fault_place f)
-reply_given (booking.Booked job address sort n folder) =
-    record { refusal = 0; job = job; folder = folder; address = address; sort = sort; size = n; place = 0 }
+reply_given (Err f) = reply_number (fault_number f) (fault_place f)
+reply_given (Ok booked) =
+    record { refusal = 0; job = booked.job; folder = booked.folder; address = booked.address; sort = booked.sort; size = booked.size; place = 0 }
 
 abbrev pub reply_told : AfterReply → AfterDeskReply
 reply_told o = record { desk = o.desk; answer = reply_given o.answer }
@@ -65,8 +60,8 @@ abbrev pub close_number : ℕ → CloseAnswer
 close_number n = record { refusal = n; job = 0; folder = 0; address = 0 }
 
 abbrev pub close_given : Closing → CloseAnswer
-close_given (closing.Refused f) = close_number (fault_number f)
-close_given (closing.Closed job address folder) = record { refusal = 0; job = job; folder = folder; address = address }
+close_given (Err f) = close_number (fault_number f)
+close_given (Ok closed) = record { refusal = 0; job = closed.job; folder = closed.folder; address = closed.address }
 
 abbrev pub close_told : AfterClose → AfterDeskClose
 close_told o = record { desk = o.desk; answer = close_given o.answer }
@@ -89,10 +84,10 @@ seen_given (seen.Withdrawn clock) = not_open 2 clock
 -- ---- the desk's answers, handed back in numbers to those who asked: which refusal it was is not kept
 
 abbrev pub booking_meant : ReplyAnswer → Booking
-booking_meant a = cond (eqb a.refusal 0) (booking.Booked a.job a.address a.sort a.size a.folder) (booking.Refused NothingDue)
+booking_meant a = cond (eqb a.refusal 0) (booking a.job a.address a.sort a.size a.folder) (Err NothingDue)
 
 abbrev pub closing_meant : CloseAnswer → Closing
-closing_meant a = cond (eqb a.refusal 0) (closing.Closed a.job a.address a.folder) (closing.Refused NothingDue)
+closing_meant a = cond (eqb a.refusal 0) (closing a.job a.address a.folder) (Err NothingDue)
 
 -- ---- the contracts
 

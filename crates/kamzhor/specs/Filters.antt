@@ -1,18 +1,14 @@
 -- What the C host is answered by a filter box, and the box as C keeps it: numbers only. Any numbers are a box.
 -- Assumes nothing.
-use Rattle.std.specs.Prelude.{◌≡◌, cond, List, ℕ, eqb}
+use Rattle.std.specs.Prelude.{◌≡◌, cond, List, ℕ, eqb, Ok, Err, Some, None}
 use Rattle.desk.specs.declared.Desk.{Desk}
 use Rattle.varia.specs.Ask.{SetsEdge, Attenuates, ReadsMonitor, ReadsStatus}
 use Rattle.varia.specs.Box.{fresh_box, fault_number, HearsReply, HearsClosing}
 use Rattle.varia.specs.Display.{is_moving, which_of}
 use Rattle.varia.specs.declared.AfterAsk.{AfterAsk}
-use Rattle.varia.specs.declared.Asking.{Asking}
-use Rattle.varia.specs.declared.Asking.TheVariants as asking
-use Rattle.varia.specs.declared.Edge.{Edge}
-use Rattle.varia.specs.declared.Edge.TheVariants.{Unknown, Known}
+use Rattle.varia.specs.Answers.{Asking, Edge, sent}
 use Rattle.varia.specs.declared.FilterBox.{FilterBox}
-use Rattle.varia.specs.declared.Out.{Out}
-use Rattle.varia.specs.declared.Out.TheVariants as out
+use Rattle.varia.specs.Answers.{Out}
 use Rattle.varia.specs.declared.Pass.{Pass}
 use Rattle.varia.specs.declared.Pass.TheVariants.{Short, Long}
 use Rattle.kamzhor.specs.Desk.{open_number, booking_meant, closing_meant}
@@ -30,12 +26,12 @@ use Rattle.kamzhor.specs.declared.host_desk.ReplyAnswer.{ReplyAnswer}
 
 -- an edge is unknown where 0 says so
 abbrev pub edge_meant : HostEdge → Edge
-edge_meant e = cond (eqb e.known 0) Unknown (Known e.tenths)
+edge_meant e = cond (eqb e.known 0) None (Some e.tenths)
 
 -- what is out: 1 is the short-pass edge, 2 the long-pass edge, all else nothing
 abbrev pub out_meant : HostOut → Out
 out_meant o =
-    cond (eqb o.edge 1) (out.Edge o.address Short o.tenths) (cond (eqb o.edge 2) (out.Edge o.address Long o.tenths) out.Nothing)
+    cond (eqb o.edge 1) (sent o.address Short o.tenths) (cond (eqb o.edge 2) (sent o.address Long o.tenths) None)
 
 abbrev pub box_meant : HostBox → FilterBox
 box_meant b = record { job = b.job; unit = b.unit; short = edge_meant b.short; long = edge_meant b.long; out = out_meant b.out }
@@ -43,16 +39,16 @@ box_meant b = record { job = b.job; unit = b.unit; short = edge_meant b.short; l
 -- ---- the numbers of a box
 
 abbrev pub edge_told : Edge → HostEdge
-edge_told Unknown = record { known = 0; tenths = 0 }
-edge_told (Known tenths) = record { known = 1; tenths = tenths }
+edge_told None = record { known = 0; tenths = 0 }
+edge_told (Some tenths) = record { known = 1; tenths = tenths }
 
 abbrev pub pass_told : Pass → ℕ
 pass_told Short = 1
 pass_told Long = 2
 
 abbrev pub out_told : Out → HostOut
-out_told out.Nothing = record { edge = 0; address = 0; tenths = 0 }
-out_told (out.Edge address pass tenths) = record { edge = pass_told pass; address = address; tenths = tenths }
+out_told None = record { edge = 0; address = 0; tenths = 0 }
+out_told (Some was) = record { edge = pass_told was.pass; address = was.address; tenths = was.tenths }
 
 abbrev pub box_told : FilterBox → HostBox
 box_told b = record { job = b.job; unit = b.unit; short = edge_told b.short; long = edge_told b.long; out = out_told b.out }
@@ -60,8 +56,8 @@ box_told b = record { job = b.job; unit = b.unit; short = edge_told b.short; lon
 -- ---- a request of the box's: a number, and by 02, #108, the count of addresses
 
 abbrev pub ask_given : Asking → ℕ → OpenAnswer
-ask_given (asking.Refused f) considered = open_number (fault_number f) considered
-ask_given (asking.Opened address n) considered = record { refusal = 0; address = address; considered = considered; size = n }
+ask_given (Err f) considered = open_number (fault_number f) considered
+ask_given (Ok opened) considered = record { refusal = 0; address = opened.address; considered = considered; size = opened.size }
 
 abbrev pub ask_told : AfterAsk → AfterBoxAsk
 ask_told o = record { filters = box_told o.filters; desk = o.desk; answer = ask_given o.answer o.count }

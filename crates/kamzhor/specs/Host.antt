@@ -1,33 +1,30 @@
 -- What the C capture host is answered: numbers only. Each answer is what the proved function answers, told in numbers.
 -- Assumes nothing.
-use Rattle.std.specs.Prelude.{◌≡◌, cond, List, ℕ, ◌+◌, ◌^◌, ◌<◌, eqb, ℤ, pos, neg_ℤ, length}
+use Rattle.std.specs.Prelude.{◌≡◌, cond, List, ℕ, ◌+◌, ◌^◌, ◌<◌, eqb, ℤ, pos, neg_ℤ, length, Ok, Err, Some, None}
 use Rattle.std.proofs.Math.Option.{Option, some, none}
 use Rattle.remainder.specs.Remainder.{remainder_of}
 use Rattle.telegram.specs.Read.{read_frame, read_refusal, room_after, data_in}
+use Rattle.telegram.specs.Answers.{Reading as FrameReading}
 use Rattle.telegram.specs.declared.Fields.{Fields}
-use Rattle.telegram.specs.declared.Reading.TheVariants.{Telegram, Refused}
 use Rattle.values.specs.Values.{read_value}
+use Rattle.values.specs.Answers.{Reading as ValueReading}
 use Rattle.values.specs.declared.Value.{Value}
 use Rattle.values.specs.declared.Value.TheVariants.{Natural, Negative}
 use Rattle.lines.specs.declared.Event.{Event}
 use Rattle.lines.specs.declared.Placed.{Placed}
 use Rattle.receiver.specs.declared.Receiver.{Receiver}
 use Rattle.tally.specs.Tally.{step_refusal, stepped_by, tally_by}
-use Rattle.tally.specs.declared.Answer.{Answer}
+use Rattle.tally.specs.Answers.{Answer}
 use Rattle.tally.specs.declared.Stepped.{Stepped}
 use Rattle.tally.specs.declared.Tally.{Tally}
 use Rattle.kamzhor.specs.declared.FrameAnswer.{FrameAnswer}
 use Rattle.kamzhor.specs.declared.ValueAnswer.{ValueAnswer}
 use Rattle.kamzhor.specs.declared.StepAnswer.{StepAnswer}
 use Rattle.telegram.specs.Read as telegram
-use Rattle.telegram.specs.declared.Reading as treading
 use Rattle.values.specs.Values as values
-use Rattle.values.specs.declared.Reading as vreading
-use Rattle.values.specs.declared.Reading.TheVariants as vreadings
 use Rattle.lines.specs.declared.Event.TheVariants as event
 use Rattle.receiver.specs.Receiver as receiver
 use Rattle.tally.specs.Tally as tally
-use Rattle.tally.specs.declared.Answer.TheVariants as answer
 
 -- the number that an answer tells: none where its refusal is 0
 abbrev pub told : ℕ → Option ℕ
@@ -51,9 +48,9 @@ frame_fields t =
       place = 0;
     }
 
-abbrev pub frame_given : treading.Reading → FrameAnswer
-frame_given (Refused f) = frame_number (telegram.fault_number f) (telegram.fault_place f)
-frame_given (Telegram t) = frame_fields t
+abbrev pub frame_given : FrameReading → FrameAnswer
+frame_given (Err f) = frame_number (telegram.fault_number f) (telegram.fault_place f)
+frame_given (Ok t) = frame_fields t
 
 -- ---- the value reader
 
@@ -72,9 +69,9 @@ magnitude_of (Negative n) = n + 1
 abbrev pub value_found : Value → ValueAnswer
 value_found v = record { refusal = 0; negative = sign_of v; magnitude = magnitude_of v }
 
-abbrev pub value_given : vreading.Reading → ValueAnswer
-value_given (vreadings.Refused f) = value_number (values.fault_number f)
-value_given (vreadings.Is v) = value_found v
+abbrev pub value_given : ValueReading → ValueAnswer
+value_given (Err f) = value_number (values.fault_number f)
+value_given (Ok v) = value_found v
 
 -- the integer that the host takes an answer for
 abbrev pub meant : ValueAnswer → ℤ
@@ -100,8 +97,8 @@ one_if line kind = cond (eqb line kind) 1 0
 
 -- what a line says of its frame: the frame reader's answer, where there is one
 abbrev pub line_frame : Event → FrameAnswer
-line_frame (event.Read t) = frame_given (Telegram t)
-line_frame (event.Refused f) = frame_given (Refused f)
+line_frame (event.Read t) = frame_given (Ok t)
+line_frame (event.Refused f) = frame_given (Err f)
 line_frame event.Dropped = frame_number 0 0
 line_frame event.Open = frame_number 0 0
 
@@ -113,9 +110,9 @@ with_line r taken e =
     record { refusal = 0; line = line_kind e.event; taken = taken; place = e.place; frame = line_frame e.event; receiver = r }
 
 abbrev pub answer_given : Receiver → ℕ → Answer → StepAnswer
-answer_given r taken answer.Nothing = no_line r taken 0
-answer_given r taken (answer.Refused f) = no_line r taken (tally.fault_number f)
-answer_given r taken (answer.Line e) = with_line r taken e
+answer_given r taken (Ok None) = no_line r taken 0
+answer_given r taken (Err f) = no_line r taken (tally.fault_number f)
+answer_given r taken (Ok (Some e)) = with_line r taken e
 
 abbrev pub step_given : Stepped → StepAnswer
 step_given s = answer_given s.receiver s.taken s.answer

@@ -1,6 +1,6 @@
 -- What the C host is answered by the lanes: numbers only.
 -- Assumes nothing.
-use Rattle.std.specs.Prelude.{◌≡◌, List, ℕ}
+use Rattle.std.specs.Prelude.{◌≡◌, List, ℕ, Ok, Err}
 use Rattle.desk.specs.declared.Desk.{Desk}
 use Rattle.lanes.specs.Grant.{Grants}
 use Rattle.lanes.specs.Join.{Joins}
@@ -9,13 +9,10 @@ use Rattle.lanes.specs.Withdraw.{Withdraws}
 use Rattle.lanes.specs.declared.AfterGrant.{AfterGrant}
 use Rattle.lanes.specs.declared.AfterJoin.{AfterJoin}
 use Rattle.lanes.specs.declared.AfterWithdraw.{AfterWithdraw}
-use Rattle.lanes.specs.declared.Granting.{Granting}
-use Rattle.lanes.specs.declared.Granting.TheVariants as granting
-use Rattle.lanes.specs.declared.Joining.{Joining}
-use Rattle.lanes.specs.declared.Joining.TheVariants as joining
+use Rattle.lanes.specs.Answers.{Granting}
+use Rattle.lanes.specs.declared.Turn.TheVariants as granting
+use Rattle.lanes.specs.Answers.{Joining, Withdrawing}
 use Rattle.lanes.specs.declared.Lanes.{Lanes}
-use Rattle.lanes.specs.declared.Withdrawing.{Withdrawing}
-use Rattle.lanes.specs.declared.Withdrawing.TheVariants as withdrawing
 use Rattle.request.specs.declared.Request.{Request}
 use Rattle.kamzhor.specs.Told.{Told}
 use Rattle.kamzhor.specs.declared.host_lanes.AfterLanesGrant.{AfterLanesGrant}
@@ -30,8 +27,8 @@ abbrev pub join_number : ℕ → JoinAnswer
 join_number n = record { refusal = n; lane = 0; place = 0 }
 
 abbrev pub join_given : Joining → JoinAnswer
-join_given (joining.Refused f) = join_number (fault_number f)
-join_given (joining.Joined lane place) = record { refusal = 0; lane = lane; place = place }
+join_given (Err f) = join_number (fault_number f)
+join_given (Ok joined) = record { refusal = 0; lane = joined.lane; place = joined.place }
 
 abbrev pub join_told : AfterJoin → AfterLanesJoin
 join_told o = record { lanes = o.lanes; answer = join_given o.answer }
@@ -43,9 +40,9 @@ abbrev pub grant_number : ℕ → ℕ → ℕ → GrantAnswer
 grant_number n job considered = record { refusal = n; job = job; address = 0; considered = considered; size = 0 }
 
 abbrev pub grant_given : Granting → ℕ → GrantAnswer
-grant_given (granting.Refused f) considered = grant_number (fault_number f) 0 considered
-grant_given (granting.TakenOut job) considered = grant_number 75 job considered
-grant_given (granting.Granted job address n) considered =
+grant_given (Err f) considered = grant_number (fault_number f) 0 considered
+grant_given (Ok (granting.TakenOut job)) considered = grant_number 75 job considered
+grant_given (Ok (granting.Granted job address n)) considered =
     record { refusal = 0; job = job; address = address; considered = considered; size = n }
 
 abbrev pub grant_told : AfterGrant → AfterLanesGrant
@@ -54,8 +51,8 @@ grant_told o = record { lanes = o.lanes; desk = o.desk; answer = grant_given o.a
 -- ---- a withdrawal
 
 abbrev pub withdraw_given : Withdrawing → ℕ
-withdraw_given (withdrawing.Refused f) = fault_number f
-withdraw_given withdrawing.Done = 0
+withdraw_given (Err f) = fault_number f
+withdraw_given (Ok _) = 0
 
 abbrev pub withdraw_told : AfterWithdraw → AfterLanesWithdraw
 withdraw_told o = record { lanes = o.lanes; refusal = withdraw_given o.answer }

@@ -1,6 +1,6 @@
 -- What the C host is answered by a scan: numbers only.
 -- Assumes nothing.
-use Rattle.std.specs.Prelude.{◌≡◌, List, ℕ}
+use Rattle.std.specs.Prelude.{◌≡◌, List, ℕ, Ok, Err}
 use Rattle.desk.specs.Desk.{fault_number}
 use Rattle.desk.specs.declared.Desk.{Desk}
 use Rattle.scan.specs.Scan.{fresh_scan, Steps, HearsReply, HearsClosing, Looks}
@@ -8,8 +8,8 @@ use Rattle.scan.specs.declared.AfterStep.{AfterStep}
 use Rattle.scan.specs.declared.Found.{Found}
 use Rattle.scan.specs.declared.Found.TheVariants.{NotYet, Absent, Present}
 use Rattle.scan.specs.declared.Scan.{Scan}
-use Rattle.scan.specs.declared.Stepping.{Stepping}
-use Rattle.scan.specs.declared.Stepping.TheVariants as stepping
+use Rattle.scan.specs.Answers.{Stepping}
+use Rattle.scan.specs.declared.Stage.TheVariants as stepping
 use Rattle.kamzhor.specs.Desk.{booking_meant, closing_meant}
 use Rattle.kamzhor.specs.Told.{Told}
 use Rattle.kamzhor.specs.declared.host_desk.CloseAnswer.{CloseAnswer}
@@ -20,10 +20,10 @@ use Rattle.kamzhor.specs.declared.host_scan.ScanAnswer.{ScanAnswer}
 -- ---- a step: 1 a module was asked, 2 its ticket is still out, 3 all turns are over, 0 the desk refused
 
 abbrev pub scan_given : Stepping → ℕ → ScanAnswer
-scan_given (stepping.Refused f) considered = record { refusal = fault_number f; state = 0; address = 0; unit = 0; considered = considered; size = 0 }
-scan_given (stepping.Asked address unit n) considered = record { refusal = 0; state = 1; address = address; unit = unit; considered = considered; size = n }
-scan_given (stepping.Waiting address) considered = record { refusal = 0; state = 2; address = address; unit = 0; considered = considered; size = 0 }
-scan_given stepping.Done considered = record { refusal = 0; state = 3; address = 0; unit = 0; considered = considered; size = 0 }
+scan_given (Err f) considered = record { refusal = fault_number f; state = 0; address = 0; unit = 0; considered = considered; size = 0 }
+scan_given (Ok (stepping.Asked address unit n)) considered = record { refusal = 0; state = 1; address = address; unit = unit; considered = considered; size = n }
+scan_given (Ok (stepping.Waiting address)) considered = record { refusal = 0; state = 2; address = address; unit = 0; considered = considered; size = 0 }
+scan_given (Ok stepping.Done) considered = record { refusal = 0; state = 3; address = 0; unit = 0; considered = considered; size = 0 }
 
 abbrev pub scan_told : AfterStep → AfterScanStep
 scan_told o = record { scan = o.scan; desk = o.desk; answer = scan_given o.answer o.count }

@@ -1,19 +1,14 @@
 -- What the C host is answered of a settings sheet: numbers only.
 -- Assumes nothing.
-use Rattle.std.specs.Prelude.{List, ℕ}
+use Rattle.std.specs.Prelude.{List, ℕ, Ok, Err}
 use Rattle.setting.specs.Setting.{fault_number, head}
 use Rattle.setting.specs.declared.Head.{Head}
 use Rattle.sheet.specs.Sheet.{Checks, Reads}
-use Rattle.sheet.specs.declared.Checked.{Checked}
-use Rattle.sheet.specs.declared.Checked.TheVariants as checked
-use Rattle.sheet.specs.declared.Reading.{Reading}
-use Rattle.sheet.specs.declared.Reading.TheVariants as reading
+use Rattle.sheet.specs.Answers.{Checked, Reading}
 use Rattle.sheet_editor.specs.Editor.{Removes, RemovesModule, Adds}
-use Rattle.sheet_editor.specs.declared.Editing.{Editing}
-use Rattle.sheet_editor.specs.declared.Editing.TheVariants as editing
+use Rattle.sheet_editor.specs.Answers.{Editing}
 use Rattle.sheet_writer.specs.Writer.{Writes}
-use Rattle.sheet_writer.specs.declared.Writing.{Writing}
-use Rattle.sheet_writer.specs.declared.Writing.TheVariants as writing
+use Rattle.sheet_writer.specs.Answers.{Writing}
 use Rattle.kamzhor.specs.Told.{Told}
 use Rattle.kamzhor.specs.Values.{size_number, size_found}
 use Rattle.kamzhor.specs.declared.host_sheet.CheckAnswer.{CheckAnswer}
@@ -24,26 +19,26 @@ use Rattle.sheet_editor.specs.Editor as editor
 -- ---- writing: how long the sheet is
 
 abbrev pub sheet_given : Writing → SizeAnswer
-sheet_given (writing.Refused f) = size_number (fault_number f)
-sheet_given (writing.Written n) = size_found n
+sheet_given (Err f) = size_number (fault_number f)
+sheet_given (Ok n) = size_found n
 
 -- ---- checking: how many records it has
 
 abbrev pub check_given : Checked → CheckAnswer
-check_given (checked.Refused f) = record { refusal = fault_number f; count = 0 }
-check_given (checked.Right n) = record { refusal = 0; count = n }
+check_given (Err f) = record { refusal = fault_number f; count = 0 }
+check_given (Ok n) = record { refusal = 0; count = n }
 
 -- ---- reading a record: what it names, and how many bytes its value has
 
 abbrev pub record_given : Reading → RecordAnswer
-record_given (reading.Refused f) = record { refusal = fault_number f; head = head 0 0 0 0; size = 0 }
-record_given (reading.Is r) = record { refusal = 0; head = r.head; size = r.size }
+record_given (Err f) = record { refusal = fault_number f; head = head 0 0 0 0; size = 0 }
+record_given (Ok r) = record { refusal = 0; head = r.head; size = r.size }
 
 -- ---- removing and adding: how long the sheet is then
 
 abbrev pub edit_given : Editing → SizeAnswer
-edit_given (editing.Refused f) = size_number (editor.fault_number f)
-edit_given (editing.Edited n) = size_found n
+edit_given (Err f) = size_number (editor.fault_number f)
+edit_given (Ok n) = size_found n
 
 -- ---- the contracts
 

@@ -1,12 +1,11 @@
 -- What the C host is answered by the telegram writer, the value writer and the catalogue: numbers only.
 -- Assumes nothing.
-use Rattle.std.specs.Prelude.{Bool, true, false, cond, List, ℕ, ◌-◌, eqb}
+use Rattle.std.specs.Prelude.{Bool, true, false, cond, List, ℕ, ◌-◌, eqb, Ok, Err}
 use Rattle.catalogue.specs.Catalogue.{Finds}
-use Rattle.catalogue.specs.declared.Found.{Found}
-use Rattle.catalogue.specs.declared.Found.TheVariants as found
+use Rattle.catalogue.specs.Answers.{Found}
 use Rattle.telegram.specs.Write.{Writes}
-use Rattle.telegram.specs.declared.Writing.{Writing}
-use Rattle.telegram.specs.declared.Writing.TheVariants as writing
+use Rattle.telegram.specs.Answers.{Writing as FrameWriting}
+use Rattle.values.specs.Answers.{Writing as ValueWriting}
 use Rattle.values.specs.declared.Value.{Value}
 use Rattle.values.specs.declared.Value.TheVariants.{Natural, Negative}
 use Rattle.kamzhor.specs.Told.{Told}
@@ -15,8 +14,6 @@ use Rattle.kamzhor.specs.declared.host_values.SizeAnswer.{SizeAnswer}
 use Rattle.catalogue.specs.Catalogue as catalogue
 use Rattle.telegram.specs.Read as telegram
 use Rattle.values.specs.Values as values
-use Rattle.values.specs.declared.Writing as vwriting
-use Rattle.values.specs.declared.Writing.TheVariants as vwritings
 
 -- ---- the telegram writer: how long the telegram is
 
@@ -26,9 +23,9 @@ size_number n = record { refusal = n; size = 0 }
 abbrev pub size_found : ℕ → SizeAnswer
 size_found n = record { refusal = 0; size = n }
 
-abbrev pub written_given : Writing → SizeAnswer
-written_given (writing.Refused f) = size_number (telegram.fault_number f)
-written_given (writing.Written n) = size_found n
+abbrev pub written_given : FrameWriting → SizeAnswer
+written_given (Err f) = size_number (telegram.fault_number f)
+written_given (Ok n) = size_found n
 
 -- ---- the value writer
 
@@ -36,9 +33,9 @@ written_given (writing.Written n) = size_found n
 abbrev pub value_meant : ℕ → ℕ → Value
 value_meant negative magnitude = cond (eqb negative 0) (Natural magnitude) (cond (eqb magnitude 0) (Natural 0) (Negative (magnitude - 1)))
 
-abbrev pub stored_given : vwriting.Writing → ℕ
-stored_given (vwritings.Refused f) = values.fault_number f
-stored_given vwritings.Done = 0
+abbrev pub stored_given : ValueWriting → ℕ
+stored_given (Err f) = values.fault_number f
+stored_given (Ok _) = 0
 
 -- ---- the catalogue
 
@@ -48,8 +45,8 @@ yes_told true = 1
 yes_told false = 0
 
 abbrev pub entry_given : Found → EntryAnswer
-entry_given (found.Refused f) = record { refusal = catalogue.fault_number f; kind = 0; writable = 0; lowest = 0; highest = 0 }
-entry_given (found.Is e) = record { refusal = 0; kind = e.kind; writable = yes_told e.writable; lowest = e.lowest; highest = e.highest }
+entry_given (Err f) = record { refusal = catalogue.fault_number f; kind = 0; writable = 0; lowest = 0; highest = 0 }
+entry_given (Ok e) = record { refusal = 0; kind = e.kind; writable = yes_told e.writable; lowest = e.lowest; highest = e.highest }
 
 -- ---- the contracts
 

@@ -108,12 +108,12 @@ fn of_build(after: bench::AfterBuild) -> AfterBenchBuild
     }
 }
 
-fn of_building(answer: bench::Building) -> u32
+fn of_building(answer: Result<(), bench::Fault>) -> u32
     ensures { result ≡ build_given answer }
 {
     match answer {
-        bench::Building::Refused(fault) => bench::number(fault) as u32,
-        bench::Building::Done => 0,
+        Err(fault) => bench::number(fault) as u32,
+        Ok(()) => 0,
     }
 }
 
@@ -128,16 +128,16 @@ fn of_take(after: bench::AfterTake) -> AfterBenchTake
     }
 }
 
-fn of_taking(answer: bench::Taking) -> TakeAnswer
+fn of_taking(answer: Result<usize, bench::Fault>) -> TakeAnswer
     ensures { result ≡ take_given answer }
 {
     match answer {
-        bench::Taking::Silent(fault) => TakeAnswer {
+        Err(fault) => TakeAnswer {
             refusal: bench::number(fault) as u32,
             size: 0,
             place: bench::place(fault) as u64,
         },
-        bench::Taking::Answered(size) => TakeAnswer {
+        Ok(size) => TakeAnswer {
             refusal: 0,
             size: size as u64,
             place: 0,
@@ -145,18 +145,18 @@ fn of_taking(answer: bench::Taking) -> TakeAnswer
     }
 }
 
-fn of_seen(seen: bench::Seen) -> RegisterAnswer
+fn of_seen(seen: Option<bench::Register>) -> RegisterAnswer
     ensures { result ≡ register_given seen }
 {
     match seen {
-        bench::Seen::Held(register) => RegisterAnswer {
+        Some(register) => RegisterAnswer {
             held: 1,
             number: register.number,
             kind: register.kind,
             rights: register.rights,
             value: register.value,
         },
-        bench::Seen::NotHeld => RegisterAnswer {
+        None => RegisterAnswer {
             held: 0,
             number: 0,
             kind: 0,

@@ -174,25 +174,33 @@ fn meant_box(filters: HostBox) -> FilterBox
     }
 }
 
-fn meant_edge(edge: HostEdge) -> varia::Edge
+fn meant_edge(edge: HostEdge) -> Option<u16>
     ensures { result ≡ edge_meant edge }
 {
     if edge.known == 0 {
-        return varia::Edge::Unknown;
+        return None;
     }
-    varia::Edge::Known(edge.tenths)
+    Some(edge.tenths)
 }
 
-fn meant_out(out: HostOut) -> varia::Out
+fn meant_out(out: HostOut) -> Option<varia::Sent>
     ensures { result ≡ out_meant out }
 {
     if out.edge == 1 {
-        return varia::Out::Edge(out.address, varia::Pass::Short, out.tenths);
+        return Some(varia::Sent {
+            address: out.address,
+            pass: varia::Pass::Short,
+            tenths: out.tenths,
+        });
     }
     if out.edge == 2 {
-        return varia::Out::Edge(out.address, varia::Pass::Long, out.tenths);
+        return Some(varia::Sent {
+            address: out.address,
+            pass: varia::Pass::Long,
+            tenths: out.tenths,
+        });
     }
-    varia::Out::Nothing
+    None
 }
 
 fn of_ask(after: varia::AfterAsk) -> AfterBoxAsk
@@ -208,21 +216,21 @@ fn of_ask(after: varia::AfterAsk) -> AfterBoxAsk
     }
 }
 
-fn of_asking(answer: varia::Asking, considered: u8) -> OpenAnswer
+fn of_asking(answer: Result<desk::Opened, varia::Fault>, considered: u8) -> OpenAnswer
     ensures { result ≡ ask_given answer considered }
 {
     match answer {
-        varia::Asking::Refused(fault) => OpenAnswer {
+        Err(fault) => OpenAnswer {
             refusal: varia::number(fault) as u32,
             address: 0,
             considered,
             size: 0,
         },
-        varia::Asking::Opened(address, size) => OpenAnswer {
+        Ok(opened) => OpenAnswer {
             refusal: 0,
-            address,
+            address: opened.address,
             considered,
-            size: size as u64,
+            size: opened.size as u64,
         },
     }
 }
@@ -242,28 +250,34 @@ fn of_box(filters: FilterBox) -> HostBox
     }
 }
 
-fn of_edge(edge: varia::Edge) -> HostEdge
+fn of_edge(edge: Option<u16>) -> HostEdge
     ensures { result ≡ edge_told edge }
 {
     match edge {
-        varia::Edge::Unknown => HostEdge {
+        None => HostEdge {
             known: 0,
             tenths: 0,
         },
-        varia::Edge::Known(tenths) => HostEdge { known: 1, tenths },
+        Some(tenths) => HostEdge { known: 1, tenths },
     }
 }
 
-fn of_out(out: varia::Out) -> HostOut
+fn of_out(out: Option<varia::Sent>) -> HostOut
     ensures { result ≡ out_told out }
 {
     match out {
-        varia::Out::Nothing => HostOut {
+        None => HostOut {
             edge: 0,
             address: 0,
             tenths: 0,
         },
-        varia::Out::Edge(address, pass, tenths) => HostOut {
+        Some(
+            varia::Sent {
+                address,
+                pass,
+                tenths,
+            },
+        ) => HostOut {
             edge: of_pass(pass),
             address,
             tenths,

@@ -167,21 +167,21 @@ fn of_open(after: desk::AfterOpen) -> AfterDeskOpen
     }
 }
 
-pub(crate) fn of_opening(answer: desk::Opening, considered: u8) -> OpenAnswer
+pub(crate) fn of_opening(answer: Result<desk::Opened, desk::Fault>, considered: u8) -> OpenAnswer
     ensures { result ≡ open_given answer considered }
 {
     match answer {
-        desk::Opening::Refused(fault) => OpenAnswer {
+        Err(fault) => OpenAnswer {
             refusal: desk::number(fault) as u32,
             address: 0,
             considered,
             size: 0,
         },
-        desk::Opening::Opened(address, size) => OpenAnswer {
+        Ok(opened) => OpenAnswer {
             refusal: 0,
-            address,
+            address: opened.address,
             considered,
-            size: size as u64,
+            size: opened.size as u64,
         },
     }
 }
@@ -197,11 +197,11 @@ fn of_reply(after: desk::AfterReply) -> AfterDeskReply
     }
 }
 
-fn of_booking(answer: desk::Booking) -> ReplyAnswer
+fn of_booking(answer: Result<desk::Booked, desk::Fault>) -> ReplyAnswer
     ensures { result ≡ reply_given answer }
 {
     match answer {
-        desk::Booking::Refused(fault) => ReplyAnswer {
+        Err(fault) => ReplyAnswer {
             refusal: desk::number(fault) as u32,
             job: 0,
             folder: 0,
@@ -210,13 +210,13 @@ fn of_booking(answer: desk::Booking) -> ReplyAnswer
             size: 0,
             place: desk::place(fault) as u64,
         },
-        desk::Booking::Booked(job, address, sort, size, folder) => ReplyAnswer {
+        Ok(booked) => ReplyAnswer {
             refusal: 0,
-            job,
-            folder,
-            address,
-            sort,
-            size: size as u64,
+            job: booked.job,
+            folder: booked.folder,
+            address: booked.address,
+            sort: booked.sort,
+            size: booked.size as u64,
             place: 0,
         },
     }
@@ -233,21 +233,21 @@ fn of_close(after: desk::AfterClose) -> AfterDeskClose
     }
 }
 
-fn of_closing(answer: desk::Closing) -> CloseAnswer
+fn of_closing(answer: Result<desk::Closed, desk::Fault>) -> CloseAnswer
     ensures { result ≡ close_given answer }
 {
     match answer {
-        desk::Closing::Refused(fault) => CloseAnswer {
+        Err(fault) => CloseAnswer {
             refusal: desk::number(fault) as u32,
             job: 0,
             folder: 0,
             address: 0,
         },
-        desk::Closing::Closed(job, address, folder) => CloseAnswer {
+        Ok(closed) => CloseAnswer {
             refusal: 0,
-            job,
-            folder,
-            address,
+            job: closed.job,
+            folder: closed.folder,
+            address: closed.address,
         },
     }
 }
@@ -299,27 +299,31 @@ fn not_open(state: u32, closed: u32) -> SeenAnswer
 }
 
 // What the desk answered to a reply, from its numbers. Which refusal it was, nobody asks.
-pub(crate) fn meant_booking(answer: ReplyAnswer) -> desk::Booking
-    ensures { result ≡ booking_meant answer }
+pub(crate) fn meant_booking(reply: ReplyAnswer) -> Result<desk::Booked, desk::Fault>
+    ensures { result ≡ booking_meant reply }
 {
-    if answer.refusal == 0 {
-        return desk::Booking::Booked(
-            answer.job,
-            answer.address,
-            answer.sort,
-            answer.size as usize,
-            answer.folder,
-        );
+    if reply.refusal == 0 {
+        return Ok(desk::Booked {
+            job: reply.job,
+            address: reply.address,
+            sort: reply.sort,
+            size: reply.size as usize,
+            folder: reply.folder,
+        });
     }
-    desk::Booking::Refused(desk::Fault::NothingDue)
+    Err(desk::Fault::NothingDue)
 }
 
 // What it answered to a cancel or an expiry.
-pub(crate) fn meant_closing(answer: CloseAnswer) -> desk::Closing
-    ensures { result ≡ closing_meant answer }
+pub(crate) fn meant_closing(closing: CloseAnswer) -> Result<desk::Closed, desk::Fault>
+    ensures { result ≡ closing_meant closing }
 {
-    if answer.refusal == 0 {
-        return desk::Closing::Closed(answer.job, answer.address, answer.folder);
+    if closing.refusal == 0 {
+        return Ok(desk::Closed {
+            job: closing.job,
+            address: closing.address,
+            folder: closing.folder,
+        });
     }
-    desk::Closing::Refused(desk::Fault::NothingDue)
+    Err(desk::Fault::NothingDue)
 }

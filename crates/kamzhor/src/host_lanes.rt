@@ -107,19 +107,19 @@ fn of_join(after: lanes::AfterJoin) -> AfterLanesJoin
     }
 }
 
-fn of_joining(answer: lanes::Joining) -> JoinAnswer
+fn of_joining(answer: Result<lanes::Joined, lanes::Fault>) -> JoinAnswer
     ensures { result ≡ join_given answer }
 {
     match answer {
-        lanes::Joining::Refused(fault) => JoinAnswer {
+        Err(fault) => JoinAnswer {
             refusal: lanes::number(fault) as u32,
             lane: 0,
             place: 0,
         },
-        lanes::Joining::Joined(lane, place) => JoinAnswer {
+        Ok(joined) => JoinAnswer {
             refusal: 0,
-            lane,
-            place,
+            lane: joined.lane,
+            place: joined.place,
         },
     }
 }
@@ -137,13 +137,13 @@ fn of_grant(after: lanes::AfterGrant) -> AfterLanesGrant
     }
 }
 
-fn of_granting(answer: lanes::Granting, considered: u8) -> GrantAnswer
+fn of_granting(answer: Result<lanes::Turn, lanes::Fault>, considered: u8) -> GrantAnswer
     ensures { result ≡ grant_given answer considered }
 {
     match answer {
-        lanes::Granting::Refused(fault) => not_granted(lanes::number(fault), 0, considered),
-        lanes::Granting::TakenOut(job) => not_granted(75, job, considered),
-        lanes::Granting::Granted(job, address, size) => GrantAnswer {
+        Err(fault) => not_granted(lanes::number(fault), 0, considered),
+        Ok(lanes::Turn::TakenOut(job)) => not_granted(75, job, considered),
+        Ok(lanes::Turn::Granted(job, address, size)) => GrantAnswer {
             refusal: 0,
             job,
             address,
@@ -176,11 +176,11 @@ fn of_withdraw(after: lanes::AfterWithdraw) -> AfterLanesWithdraw
     }
 }
 
-fn of_withdrawing(answer: lanes::Withdrawing) -> u32
+fn of_withdrawing(answer: Result<(), lanes::Fault>) -> u32
     ensures { result ≡ withdraw_given answer }
 {
     match answer {
-        lanes::Withdrawing::Refused(fault) => lanes::number(fault) as u32,
-        lanes::Withdrawing::Done => 0,
+        Err(fault) => lanes::number(fault) as u32,
+        Ok(()) => 0,
     }
 }

@@ -87,11 +87,11 @@ fn of_step(after: scan::AfterStep) -> AfterScanStep
     }
 }
 
-fn of_stepping(answer: scan::Stepping, considered: u8) -> ScanAnswer
+fn of_stepping(answer: Result<scan::Stage, desk::Fault>, considered: u8) -> ScanAnswer
     ensures { result ≡ scan_given answer considered }
 {
     match answer {
-        scan::Stepping::Refused(fault) => ScanAnswer {
+        Err(fault) => ScanAnswer {
             refusal: desk::number(fault) as u32,
             state: 0,
             address: 0,
@@ -99,7 +99,7 @@ fn of_stepping(answer: scan::Stepping, considered: u8) -> ScanAnswer
             considered,
             size: 0,
         },
-        scan::Stepping::Asked(address, unit, size) => ScanAnswer {
+        Ok(scan::Stage::Asked(address, unit, size)) => ScanAnswer {
             refusal: 0,
             state: 1,
             address,
@@ -107,7 +107,7 @@ fn of_stepping(answer: scan::Stepping, considered: u8) -> ScanAnswer
             considered,
             size: size as u64,
         },
-        scan::Stepping::Waiting(address) => ScanAnswer {
+        Ok(scan::Stage::Waiting(address)) => ScanAnswer {
             refusal: 0,
             state: 2,
             address,
@@ -115,7 +115,7 @@ fn of_stepping(answer: scan::Stepping, considered: u8) -> ScanAnswer
             considered,
             size: 0,
         },
-        scan::Stepping::Done => ScanAnswer {
+        Ok(scan::Stage::Done) => ScanAnswer {
             refusal: 0,
             state: 3,
             address: 0,

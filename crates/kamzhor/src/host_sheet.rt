@@ -77,37 +77,35 @@ pub extern "C" fn kamzhor_sheet_add(
     of_editing(sheet_editor::add(room, size, head, value))
 }
 
-fn of_writing(writing: sheet_writer::Writing) -> SizeAnswer
+fn of_writing(writing: Result<usize, setting::Fault>) -> SizeAnswer
     ensures { result ≡ sheet_given writing }
 {
     match writing {
-        sheet_writer::Writing::Refused(fault) => crate::host_values::no_size(setting::number(
-            fault,
-        )),
-        sheet_writer::Writing::Written(size) => crate::host_values::size_of(size),
+        Err(fault) => crate::host_values::no_size(setting::number(fault)),
+        Ok(size) => crate::host_values::size_of(size),
     }
 }
 
-fn of_checked(checked: sheet::Checked) -> CheckAnswer
+fn of_checked(checked: Result<usize, setting::Fault>) -> CheckAnswer
     ensures { result ≡ check_given checked }
 {
     match checked {
-        sheet::Checked::Refused(fault) => CheckAnswer {
+        Err(fault) => CheckAnswer {
             refusal: setting::number(fault) as u32,
             count: 0,
         },
-        sheet::Checked::Right(count) => CheckAnswer {
+        Ok(count) => CheckAnswer {
             refusal: 0,
             count: count as u64,
         },
     }
 }
 
-fn of_reading(reading: sheet::Reading) -> RecordAnswer
+fn of_reading(reading: Result<sheet::Record, setting::Fault>) -> RecordAnswer
     ensures { result ≡ record_given reading }
 {
     match reading {
-        sheet::Reading::Refused(fault) => RecordAnswer {
+        Err(fault) => RecordAnswer {
             refusal: setting::number(fault) as u32,
             head: Head {
                 unit: 0,
@@ -117,7 +115,7 @@ fn of_reading(reading: sheet::Reading) -> RecordAnswer
             },
             size: 0,
         },
-        sheet::Reading::Is(record) => {
+        Ok(record) => {
             let head = record.head;
             RecordAnswer {
                 refusal: 0,
@@ -128,13 +126,11 @@ fn of_reading(reading: sheet::Reading) -> RecordAnswer
     }
 }
 
-fn of_editing(editing: sheet_editor::Editing) -> SizeAnswer
+fn of_editing(editing: Result<usize, sheet_editor::Fault>) -> SizeAnswer
     ensures { result ≡ edit_given editing }
 {
     match editing {
-        sheet_editor::Editing::Refused(fault) => crate::host_values::no_size(sheet_editor::number(
-            fault,
-        )),
-        sheet_editor::Editing::Edited(size) => crate::host_values::size_of(size),
+        Err(fault) => crate::host_values::no_size(sheet_editor::number(fault)),
+        Ok(edited) => crate::host_values::size_of(edited),
     }
 }

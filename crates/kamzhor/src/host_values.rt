@@ -60,12 +60,12 @@ pub extern "C" fn kamzhor_find_register(model: u8, register: u8) -> EntryAnswer
     of_found(catalogue::find(model, register))
 }
 
-fn of_written(writing: telegram::Writing) -> SizeAnswer
+fn of_written(writing: Result<usize, telegram::Fault>) -> SizeAnswer
     ensures { result ≡ written_given writing }
 {
     match writing {
-        telegram::Writing::Refused(fault) => no_size(telegram::number(fault)),
-        telegram::Writing::Written(size) => size_of(size),
+        Err(fault) => no_size(telegram::number(fault)),
+        Ok(size) => size_of(size),
     }
 }
 
@@ -99,27 +99,27 @@ pub(crate) fn meant_value(negative: u32, magnitude: u64) -> values::Value
     values::Value::Negative(magnitude - 1)
 }
 
-fn of_stored(writing: values::Writing) -> u32
+fn of_stored(writing: Result<(), values::Fault>) -> u32
     ensures { result ≡ stored_given writing }
 {
     match writing {
-        values::Writing::Refused(fault) => values::number(fault) as u32,
-        values::Writing::Done => 0,
+        Err(fault) => values::number(fault) as u32,
+        Ok(()) => 0,
     }
 }
 
-fn of_found(found: catalogue::Found) -> EntryAnswer
+fn of_found(found: Result<catalogue::Entry, catalogue::Fault>) -> EntryAnswer
     ensures { result ≡ entry_given found }
 {
     match found {
-        catalogue::Found::Refused(fault) => EntryAnswer {
+        Err(fault) => EntryAnswer {
             refusal: catalogue::number(fault) as u32,
             kind: 0,
             writable: 0,
             lowest: 0,
             highest: 0,
         },
-        catalogue::Found::Is(entry) => EntryAnswer {
+        Ok(entry) => EntryAnswer {
             refusal: 0,
             kind: entry.kind,
             writable: yes(entry.writable),

@@ -91,8 +91,8 @@ pub extern "C" fn kamzhor_read_value(kind: u64, bytes: &[u8], element: u64) -> V
         return refused(values::Fault::UnknownKind);
     }
     match values::read(kind as u8, bytes, element) {
-        values::Reading::Refused(fault) => refused(fault),
-        values::Reading::Is(value) => of_value(value),
+        Err(fault) => refused(fault),
+        Ok(value) => of_value(value),
     }
 }
 
@@ -130,14 +130,12 @@ fn step_counted(tally: Tally, receiver: Receiver, chunk: &[u8]) -> StepCounted
     }
 }
 
-fn of_reading(reading: telegram::Reading) -> FrameAnswer
+fn of_reading(reading: Result<telegram::Fields, telegram::Fault>) -> FrameAnswer
     ensures { result ≡ frame_given reading }
 {
     match reading {
-        telegram::Reading::Refused(fault) => {
-            frame_number(telegram::number(fault), telegram::place(fault))
-        }
-        telegram::Reading::Telegram(t) => FrameAnswer {
+        Err(fault) => frame_number(telegram::number(fault), telegram::place(fault)),
+        Ok(t) => FrameAnswer {
             refusal: 0,
             destination: t.destination,
             source: t.source,
@@ -198,9 +196,9 @@ fn of_step(stepped: tally::Stepped) -> StepAnswer
     let receiver = stepped.receiver;
     let answer = stepped.answer;
     match answer {
-        tally::Answer::Nothing => no_line(receiver, stepped.taken, 0),
-        tally::Answer::Refused(fault) => no_line(receiver, stepped.taken, tally::number(fault)),
-        tally::Answer::Line(line) => {
+        Ok(None) => no_line(receiver, stepped.taken, 0),
+        Err(fault) => no_line(receiver, stepped.taken, tally::number(fault)),
+        Ok(Some(line)) => {
             let event = line.event;
             StepAnswer {
                 refusal: 0,
@@ -243,8 +241,8 @@ fn of_event(event: lines::Event) -> FrameAnswer
     ensures { result ≡ line_frame event }
 {
     match event {
-        lines::Event::Read(t) => of_reading(telegram::Reading::Telegram(t)),
-        lines::Event::Refused(fault) => of_reading(telegram::Reading::Refused(fault)),
+        lines::Event::Read(t) => of_reading(Ok(t)),
+        lines::Event::Refused(fault) => of_reading(Err(fault)),
         lines::Event::Dropped => frame_number(0, 0),
         lines::Event::Open => frame_number(0, 0),
     }

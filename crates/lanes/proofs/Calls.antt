@@ -1,5 +1,7 @@
 -- What each return of the calls gives, over plain numbers, requests and lanes.
 -- Assumes nothing.
+use Rattle.lanes.specs.Answers.{joining}
+use Rattle.std.specs.Prelude.{Ok, Err}
 use mathlib.Core.Path.{◌≡◌, refl, sym, ap, ap₂, subst, ◌∙◌}
 use mathlib.Core.Bool.{Bool, true, false}
 use mathlib.Core.List.{List}
@@ -18,8 +20,7 @@ use Rattle.request.specs.declared.Request.{Request}
 use Rattle.desk.specs.declared.AfterOpen.{AfterOpen}
 use Rattle.desk.specs.declared.Desk.{Desk}
 use Rattle.desk.specs.declared.Fault.{Fault as DeskFault}
-use Rattle.desk.specs.declared.Opening.{Opening}
-use Rattle.desk.specs.declared.Opening.TheVariants.{Refused as NotOpened}
+use Rattle.desk.specs.Answers.{Opening}
 use Rattle.lanes.specs.Lanes.{lane_at, waiting_at, waiting_with, with_last, with_lane, without, own_lane}
 use Rattle.lanes.specs.Join.{lane_for, join_refusal, Joins, JoinsAt}
 use Rattle.lanes.specs.Grant.{place_after, next_distance, next_place, grant_refusal, takes_out, moves_on, served_from, from_desk, OpensWaiting, Serves, Grants}
@@ -27,12 +28,10 @@ use Rattle.lanes.specs.Withdraw.{withdraw_refusal, Withdraws}
 use Rattle.lanes.specs.declared.AfterGrant.{AfterGrant}
 use Rattle.lanes.specs.declared.AfterJoin.{AfterJoin}
 use Rattle.lanes.specs.declared.Fault.TheVariants.{Denied, ShortBuffer, NothingWaiting, NoSuchRequest, AtDesk}
-use Rattle.lanes.specs.declared.Granting.{Granting}
-use Rattle.lanes.specs.declared.Granting.TheVariants.{TakenOut, Refused}
-use Rattle.lanes.specs.declared.Joining.TheVariants.{Joined}
+use Rattle.lanes.specs.Answers.{Granting}
+use Rattle.lanes.specs.declared.Turn.TheVariants.{TakenOut}
 use Rattle.lanes.specs.declared.Lane.{Lane}
 use Rattle.lanes.specs.declared.Lanes.{Lanes}
-use Rattle.lanes.specs.declared.Withdrawing.TheVariants.{Done}
 
 -- a search over all 16 lanes
 pub found : (fits : ℕ → Bool) (k : ℕ) → ((i : ℕ) → i < k → fits i ≡ false) → (k < 16 → fits k ≡ true) → k ≤ 16 → k ≡ first_place fits 16
@@ -54,10 +53,10 @@ found_whole fits k before there within = found fits k (λ i l. ap fits (whole i 
 
 pub joined_at : (lanes : Lanes) (place : ℕ) (asked : Request) (bytes : List ℕ) (lane : Lane) (lanes' : Lanes) → place < 16 → lane ≡ lane_at lanes place → lane.size < 4
     → lanes' ≡ with_lane lanes place (with_last lane (waiting_with asked bytes))
-    → JoinsAt lanes place asked bytes (record { lanes = lanes'; answer = Joined (place + 1) (lane.size + 1) })
+    → JoinsAt lanes place asked bytes (record { lanes = lanes'; answer = joining (place + 1) (lane.size + 1) })
 joined_at lanes place asked bytes lane lanes' near is few laid =
     rw (lt-leb 16 place near, lt-leb 4 (lane_at lanes place).size (rw is at few))
-    (ap (λ (l : Lane). Joined (place + 1) (l.size + 1)) is, laid ∙ ap (λ (l : Lane). with_lane lanes place (with_last l (waiting_with asked bytes))) is)
+    (ap (λ (l : Lane). joining (place + 1) (l.size + 1)) is, laid ∙ ap (λ (l : Lane). with_lane lanes place (with_last l (waiting_with asked bytes))) is)
 
 pub join_denied : (lanes : Lanes) (asked : Request) (bytes : List ℕ) (f : Asked) → ask_refusal asked bytes ≡ some f → join_refusal lanes asked bytes ≡ some (Denied f)
 unfolding join_refusal
@@ -106,10 +105,10 @@ served_at lanes desk place clock room room' lane o moves lanes' answer is opens 
 )
 
 -- a refusal at the desk, by whether it takes the request out
-pub told_out : (job : ℕ) (a : Opening) (f : DeskFault) (out : Bool) → a ≡ NotOpened f → out ≡ takes_out f → out ≡ true → TakenOut job ≡ from_desk job a
+pub told_out : (job : ℕ) (a : Opening) (f : DeskFault) (out : Bool) → a ≡ Err f → out ≡ takes_out f → out ≡ true → Ok (TakenOut job) ≡ from_desk job a
 told_out job a f out is by taken = rw (is, ← by, taken)
 
-pub told_on : (job : ℕ) (a : Opening) (f : DeskFault) (out : Bool) → a ≡ NotOpened f → out ≡ takes_out f → out ≡ false → Refused (AtDesk f) ≡ from_desk job a
+pub told_on : (job : ℕ) (a : Opening) (f : DeskFault) (out : Bool) → a ≡ Err f → out ≡ takes_out f → out ≡ false → Err (AtDesk f) ≡ from_desk job a
 told_on job a f out is by left = rw (is, ← by, left)
 
 -- ---- withdrawing
@@ -128,7 +127,7 @@ module _ (lanes : Lanes) (job at place : ℕ) (lane : Lane) (is : place ≡ own_
   no_more some_one over = rw (← is, lt-leb 16 place near, ne_eqb at 0 some_one, ← there, lt-ltb lane.size at over)
 
   pub withdrawn_at_lem : (lanes' : Lanes) → at ≢ 0 → at ≤ lane.size → lanes' ≡ with_lane lanes place (without lane (at - 1))
-      → Withdraws lanes job at (record { lanes = lanes'; answer = Done })
+      → Withdraws lanes job at (record { lanes = lanes'; answer = Ok tt })
   unfolding withdraw_refusal
   withdrawn_at_lem lanes' some_one within laid =
       rw (← is, lt-leb 16 place near, ne_eqb at 0 some_one, le-ltb (lane_at lanes place).size at (rw there at within))

@@ -1,7 +1,7 @@
 -- A grant: it "serves the first lane with something waiting after the lane last served (at first the 16th), going round, opens its oldest
 -- request and answers its job too". 02, #109.
 -- Assumes nothing.
-use Rattle.std.specs.Prelude.{◌≡◌, Bool, true, false, cond, not, List, [], ◌∷◌, ℕ, ◌+◌, ◌%◌, ◌<◌, leb, ltb, length, set, take}
+use Rattle.std.specs.Prelude.{◌≡◌, Bool, true, false, cond, not, List, [], ◌∷◌, ℕ, ◌+◌, ◌%◌, ◌<◌, leb, ltb, length, set, take, Ok, Err}
 use Rattle.std.proofs.Math.Option.{Option, some, none}
 use Rattle.first.specs.First.{first_place}
 use Rattle.rows.specs.Rows.{Row, row, Test, test, first_row_of}
@@ -11,14 +11,13 @@ use Rattle.desk.specs.declared.AfterOpen.{AfterOpen}
 use Rattle.desk.specs.declared.Desk.{Desk}
 use Rattle.desk.specs.declared.Fault.{Fault as DeskFault}
 use Rattle.desk.specs.declared.Fault.TheVariants as desk
-use Rattle.desk.specs.declared.Opening.{Opening}
-use Rattle.desk.specs.declared.Opening.TheVariants.{Opened, Refused as NotOpened}
+use Rattle.desk.specs.Answers.{Opening}
 use Rattle.lanes.specs.Lanes.{Empty, is_empty, lane_at, waiting_at, data_of, without, fault_number}
 use Rattle.lanes.specs.declared.AfterGrant.{AfterGrant}
 use Rattle.lanes.specs.declared.Fault.{Fault}
 use Rattle.lanes.specs.declared.Fault.TheVariants.{ShortBuffer, NothingWaiting, AtDesk}
-use Rattle.lanes.specs.declared.Granting.{Granting}
-use Rattle.lanes.specs.declared.Granting.TheVariants.{Granted, TakenOut, Refused}
+use Rattle.lanes.specs.Answers.{Granting}
+use Rattle.lanes.specs.declared.Turn.TheVariants.{Granted, TakenOut}
 use Rattle.lanes.specs.declared.Lane.{Lane}
 use Rattle.lanes.specs.declared.Lanes.{Lanes}
 use Rattle.lanes.specs.declared.Waiting.{Waiting}
@@ -69,8 +68,8 @@ takes_out desk.NothingDue = false
 -- the turn was used: a ticket was opened, or the request is taken out: "that grant, though refused, counts for #109 as one that opened
 -- something and moves on the lane last served". "A grant answered 15 changes nothing and doesn't count."
 abbrev pub moves_on : Opening → Bool
-moves_on (Opened address n) = true
-moves_on (NotOpened f) = takes_out f
+moves_on (Ok opened) = true
+moves_on (Err f) = takes_out f
 
 -- its oldest request is out of the lane, and it is the lane last served
 abbrev pub served_from : Lanes → ℕ → Lane → Bool → Lanes
@@ -79,13 +78,13 @@ served_from lanes place lane false = lanes
 
 -- it "answers its job too"; one that is taken out is "reported with 75 and its job"
 abbrev pub from_desk : ℕ → Opening → Granting
-from_desk job (Opened address n) = Granted job address n
-from_desk job (NotOpened f) = cond (takes_out f) (TakenOut job) (Refused (AtDesk f))
+from_desk job (Ok opened) = Ok (Granted job opened.address opened.size)
+from_desk job (Err f) = cond (takes_out f) (Ok (TakenOut job)) (Err (AtDesk f))
 
 abbrev pub grant_told : Granting → Option ℕ
-grant_told (Refused f) = some (fault_number f)
-grant_told (TakenOut job) = some 75
-grant_told (Granted job address n) = none
+grant_told (Err f) = some (fault_number f)
+grant_told (Ok (TakenOut job)) = some 75
+grant_told (Ok (Granted job address n)) = none
 
 -- ---- the contracts
 
@@ -111,7 +110,7 @@ Serves lanes desk place clock room r room' =
 
 -- refused before the desk is asked: nothing changes, and no address was considered
 abbrev pub NotGranted : Fault → Lanes → Desk → AfterGrant → Type 0
-NotGranted f lanes desk r = (r.answer ≡ Refused f) × (r.lanes ≡ lanes) × (r.desk ≡ desk) × (r.count ≡ 0)
+NotGranted f lanes desk r = (r.answer ≡ Err f) × (r.lanes ≡ lanes) × (r.desk ≡ desk) × (r.count ≡ 0)
 
 abbrev pub GrantsBy : Option Fault → Lanes → Desk → ℕ → List ℕ → AfterGrant → List ℕ → Type 0
 GrantsBy (some f) lanes desk clock room r room' = NotGranted f lanes desk r × (room' ≡ room)

@@ -1,6 +1,6 @@
 -- Joining a lane: "Requests are checked for 10 to 14 when they join. A job's first request takes the lowest empty lane". 02, #109.
 -- Assumes nothing.
-use Rattle.std.specs.Prelude.{◌≡◌, cond, List, [], ◌∷◌, ◌++◌, ℕ, ◌+◌, ◌≤◌, ◌<◌, leb, ltb}
+use Rattle.std.specs.Prelude.{◌≡◌, cond, List, [], ◌∷◌, ◌++◌, ℕ, ◌+◌, ◌≤◌, ◌<◌, leb, ltb, Ok, Err}
 use Rattle.std.proofs.Math.Option.{Option, some, none}
 use Rattle.rows.specs.Rows.{Row, row, Test, test, first_row_of, or_later, passed_up, raised}
 use Rattle.request.specs.Request.{ask_rows, ask_refusal}
@@ -9,8 +9,7 @@ use Rattle.lanes.specs.Lanes.{Empty, Belongs, TheirLane, lane_at, own_lane, empt
 use Rattle.lanes.specs.declared.AfterJoin.{AfterJoin}
 use Rattle.lanes.specs.declared.Fault.{Fault}
 use Rattle.lanes.specs.declared.Fault.TheVariants.{Denied, NoLaneFree, LaneFull}
-use Rattle.lanes.specs.declared.Joining.{Joining}
-use Rattle.lanes.specs.declared.Joining.TheVariants.{Joined, Refused}
+use Rattle.lanes.specs.Answers.{Joining, joining}
 use Rattle.lanes.specs.declared.Lanes.{Lanes}
 
 -- 71: "no lane free": the job has none, and none is empty
@@ -43,12 +42,12 @@ join_refusal lanes asked bytes = or_later (raised Denied (ask_refusal asked byte
 
 -- lane and place, both from 1
 abbrev pub join_answer : Option Fault → Lanes → ℕ → Joining
-join_answer (some f) lanes place = Refused f
-join_answer none lanes place = Joined (place + 1) ((lane_at lanes place).size + 1)
+join_answer (some f) lanes place = Err f
+join_answer none lanes place = joining (place + 1) ((lane_at lanes place).size + 1)
 
 abbrev pub join_told : Joining → Option ℕ
-join_told (Refused f) = some (fault_number f)
-join_told (Joined lane at) = none
+join_told (Err f) = some (fault_number f)
+join_told (Ok joined) = none
 
 abbrev pub join_lanes : Option Fault → Lanes → ℕ → Request → List ℕ → Lanes
 join_lanes (some f) lanes place asked bytes = lanes
@@ -70,4 +69,4 @@ JoinsAt lanes place asked bytes r = JoinsBy (first_row_of (lane_tests lanes plac
 
 -- refused: nothing changes
 abbrev pub NotJoined : Fault → Lanes → AfterJoin → Type 0
-NotJoined f lanes r = (r.answer ≡ Refused f) × (r.lanes ≡ lanes)
+NotJoined f lanes r = (r.answer ≡ Err f) × (r.lanes ≡ lanes)

@@ -1,3 +1,4 @@
+pub mod Answers
 pub mod Lanes
 pub mod Join
 pub mod Grant

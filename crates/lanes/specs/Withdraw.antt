@@ -1,6 +1,6 @@
 -- Withdrawing: "A job may withdraw a waiting request by its place in the lane, from 1; later ones move up". 02, #109.
 -- Assumes nothing.
-use Rattle.std.specs.Prelude.{◌≡◌, Bool, ◌||◌, List, [], ◌∷◌, ℕ, ◌-◌, ◌≤◌, eqb, leb, ltb}
+use Rattle.std.specs.Prelude.{◌≡◌, Bool, ◌||◌, List, [], ◌∷◌, ℕ, ◌-◌, ◌≤◌, eqb, leb, ltb, Ok, Err}
 use Rattle.std.proofs.Math.Option.{Option, some, none}
 use Rattle.rows.specs.Rows.{Row, row, test, first_row_of}
 use Rattle.lanes.specs.Lanes.{TheirLane, lane_at, own_lane, without, with_lane, fault_number}
@@ -8,8 +8,7 @@ use Rattle.lanes.specs.declared.AfterWithdraw.{AfterWithdraw}
 use Rattle.lanes.specs.declared.Fault.{Fault}
 use Rattle.lanes.specs.declared.Fault.TheVariants.{NoSuchRequest}
 use Rattle.lanes.specs.declared.Lanes.{Lanes}
-use Rattle.lanes.specs.declared.Withdrawing.{Withdrawing}
-use Rattle.lanes.specs.declared.Withdrawing.TheVariants.{Done, Refused}
+use Rattle.lanes.specs.Answers.{Withdrawing}
 
 -- 55: "no such request": none of the job's waits at that place of its lane
 unfoldable pub IsNoSuchRequest : Lanes → ℕ → ℕ → Type 0
@@ -29,12 +28,12 @@ withdraw_refusal lanes job at = first_row_of (test (is_no_such lanes (own_lane l
 -- ---- the answer and the lanes, each from the refusal; the lane last served stays
 
 abbrev pub withdraw_answer : Option Fault → Withdrawing
-withdraw_answer (some f) = Refused f
-withdraw_answer none = Done
+withdraw_answer (some f) = Err f
+withdraw_answer none = Ok tt
 
 abbrev pub withdraw_told : Withdrawing → Option ℕ
-withdraw_told (Refused f) = some (fault_number f)
-withdraw_told Done = none
+withdraw_told (Err f) = some (fault_number f)
+withdraw_told (Ok _) = none
 
 abbrev pub withdraw_lanes : Option Fault → Lanes → ℕ → ℕ → Lanes
 withdraw_lanes (some f) lanes place at = lanes
@@ -50,4 +49,4 @@ Withdraws lanes job at r =
 
 -- refused: nothing changes
 abbrev pub NotWithdrawn : Lanes → AfterWithdraw → Type 0
-NotWithdrawn lanes r = (r.answer ≡ Refused NoSuchRequest) × (r.lanes ≡ lanes)
+NotWithdrawn lanes r = (r.answer ≡ Err NoSuchRequest) × (r.lanes ≡ lanes)

@@ -10,7 +10,7 @@ ghost use Rattle.lanes.specs.Grant.{Grants, Serves, NotGranted, OpensWith, Opens
 ghost use Rattle.lanes.specs.Withdraw.{Withdraws, NotWithdrawn};
 ghost use Rattle.std.specs.Prelude.{◌≡◌, not, ◌+◌, ◌%◌, ◌≤◌, ◌<◌, ℕ, false, true, length};
 
-use desk::{AfterOpen, Opening};
+use desk::{AfterOpen, Opened};
 pub use desk::{Desk, Request};
 
 // A request that waits, and its data: the first `size` of the bytes, the others are zero.
@@ -55,41 +55,35 @@ pub enum Fault {
     AtDesk(desk::Fault),
 }
 
+// Where a request joined: the lane, from 1, and the place in it, from 1.
 #[derive(Clone, Copy)]
-pub enum Joining {
-    // the lane, from 1, and the place in it, from 1
-    Joined(u8, u8),
-    Refused(Fault),
+pub struct Joined {
+    pub lane: u8,
+    pub place: u8,
 }
 
+// What came of a lane's turn.
 #[derive(Clone, Copy)]
-pub enum Granting {
+pub enum Turn {
     // the job whose request was opened, the host address that it was given, and the length of its
     // telegram
     Granted(u32, u8, usize),
     // the job whose request was taken out, because another job holds its folder: told as the desk's 75
     TakenOut(u32),
-    Refused(Fault),
-}
-
-#[derive(Clone, Copy)]
-pub enum Withdrawing {
-    Done,
-    Refused(Fault),
 }
 
 // A call's answer, with the lanes as they are afterwards.
 #[derive(Clone, Copy)]
 pub struct AfterJoin {
     pub lanes: Lanes,
-    pub answer: Joining,
+    pub answer: Result<Joined, Fault>,
 }
 
 #[derive(Clone, Copy)]
 pub struct AfterGrant {
     pub lanes: Lanes,
     pub desk: Desk,
-    pub answer: Granting,
+    pub answer: Result<Turn, Fault>,
     // how many addresses the desk considered; 0 where it was not asked
     pub count: u8,
 }
@@ -97,7 +91,7 @@ pub struct AfterGrant {
 #[derive(Clone, Copy)]
 pub struct AfterWithdraw {
     pub lanes: Lanes,
-    pub answer: Withdrawing,
+    pub answer: Result<(), Fault>,
 }
 
 // The longest telegram.
@@ -152,8 +146,8 @@ pub fn join(lanes: Lanes, asked: Request, data: &[u8]) -> AfterJoin
     ensures { Joins lanes asked «data».now result }
 {
     match request::judge(asked, data) {
-        request::Asking::Denied(fault) => not_joined(lanes, Fault::Denied(fault)),
-        request::Asking::Allowed => join_at(lanes, lane_for(lanes, asked.job), asked, data),
+        Err(fault) => not_joined(lanes, Fault::Denied(fault)),
+        Ok(()) => join_at(lanes, lane_for(lanes, asked.job), asked, data),
     }
 }
 
@@ -171,7 +165,10 @@ fn join_at(lanes: Lanes, place: u8, asked: Request, data: &[u8]) -> AfterJoin
     }
     AfterJoin {
         lanes: with_lane(lanes, place, with_last(lane, waiting_with(asked, data))),
-        answer: Joining::Joined(place + 1, lane.size + 1),
+        answer: Ok(Joined {
+            lane: place + 1,
+            place: lane.size + 1,
+        }),
     }
 }
 
@@ -180,7 +177,7 @@ fn not_joined(lanes: Lanes, fault: Fault) -> AfterJoin
 {
     AfterJoin {
         lanes,
-        answer: Joining::Refused(fault),
+        answer: Err(fault),
     }
 }
 
@@ -236,7 +233,7 @@ fn not_granted(lanes: Lanes, desk: Desk, fault: Fault) -> AfterGrant
     AfterGrant {
         lanes,
         desk,
-        answer: Granting::Refused(fault),
+        answer: Err(fault),
         count: 0,
     }
 }
@@ -267,12 +264,12 @@ fn open_with(
 }
 
 // Whether a grant that the desk answered so has had its turn.
-fn moves_on(answer: Opening) -> bool
+fn moves_on(answer: Result<Opened, desk::Fault>) -> bool
     ensures { result ≡ moves_on answer }
 {
     match answer {
-        Opening::Opened(_, _) => true,
-        Opening::Refused(fault) => takes_out(fault),
+        Ok(_) => true,
+        Err(fault) => takes_out(fault),
     }
 }
 
@@ -306,16 +303,16 @@ fn served_from(lanes: Lanes, place: u8, lane: Lane, moves: bool) -> Lanes
 }
 
 // The desk's answer, with the job.
-fn from_desk(job: u32, answer: Opening) -> Granting
+fn from_desk(job: u32, answer: Result<Opened, desk::Fault>) -> Result<Turn, Fault>
     ensures { result ≡ from_desk job answer }
 {
     match answer {
-        Opening::Opened(address, n) => Granting::Granted(job, address, n),
-        Opening::Refused(fault) => {
+        Ok(Opened { address, size: n }) => Ok(Turn::Granted(job, address, n)),
+        Err(fault) => {
             if takes_out(fault) {
-                return Granting::TakenOut(job);
+                return Ok(Turn::TakenOut(job));
             }
-            Granting::Refused(Fault::AtDesk(fault))
+            Err(Fault::AtDesk(fault))
         }
     }
 }
@@ -337,7 +334,7 @@ pub fn withdraw(lanes: Lanes, job: u32, at: usize) -> AfterWithdraw
     }
     AfterWithdraw {
         lanes: with_lane(lanes, place, without(lane, at - 1)),
-        answer: Withdrawing::Done,
+        answer: Ok(()),
     }
 }
 
@@ -346,7 +343,7 @@ fn not_withdrawn(lanes: Lanes) -> AfterWithdraw
 {
     AfterWithdraw {
         lanes,
-        answer: Withdrawing::Refused(Fault::NoSuchRequest),
+        answer: Err(Fault::NoSuchRequest),
     }
 }
 

@@ -3,7 +3,7 @@
 #![tactic(auto)]
 
 use desk::{Desk, Request};
-use lanes::{AfterGrant, Granting, Joining, Lane, Lanes, Waiting, Withdrawing};
+use lanes::{AfterGrant, Fault, Joined, Lane, Lanes, Turn, Waiting};
 use words::{Words, count, word32};
 
 #[derive(Clone, Copy)]
@@ -66,11 +66,11 @@ fn join_now(hall: Hall, asked: Request, data: &[u8], out: &mut [u8]) -> Told {
     with_lanes(hall, next, joined(answer, out))
 }
 
-fn joined(answer: Joining, out: &mut [u8]) -> usize {
+fn joined(answer: Result<Joined, Fault>, out: &mut [u8]) -> usize {
     match answer {
-        Joining::Refused(fault) => answers::refused(out, lanes::number(fault)),
-        Joining::Joined(lane, at) => {
-            answers::form(out, b"ok lane=# at=#", &[lane as u64, at as u64])
+        Err(fault) => answers::refused(out, lanes::number(fault)),
+        Ok(Joined { lane, place }) => {
+            answers::form(out, b"ok lane=# at=#", &[lane as u64, place as u64])
         }
     }
 }
@@ -107,10 +107,10 @@ fn granted(after: AfterGrant, room: &[u8], out: &mut [u8]) -> Told {
 
 // The desk's refusals come with its count, the lanes' own without one. A request that was taken out is
 // told as the desk's refusal, with its job.
-fn granting(answer: Granting, considered: u8, out: &mut [u8]) -> usize {
+fn granting(answer: Result<Turn, Fault>, considered: u8, out: &mut [u8]) -> usize {
     match answer {
-        Granting::Refused(fault) => refused(fault, considered, out),
-        Granting::TakenOut(job) => answers::form(
+        Err(fault) => refused(fault, considered, out),
+        Ok(Turn::TakenOut(job)) => answers::form(
             out,
             b"no # job=# count=#",
             &[
@@ -119,7 +119,7 @@ fn granting(answer: Granting, considered: u8, out: &mut [u8]) -> usize {
                 considered as u64,
             ],
         ),
-        Granting::Granted(job, address, n) => answers::form(
+        Ok(Turn::Granted(job, address, n)) => answers::form(
             out,
             b"ok job=# address=# n=# count=#",
             &[job as u64, address as u64, n as u64, considered as u64],
@@ -127,11 +127,9 @@ fn granting(answer: Granting, considered: u8, out: &mut [u8]) -> usize {
     }
 }
 
-fn refused(fault: lanes::Fault, considered: u8, out: &mut [u8]) -> usize {
+fn refused(fault: Fault, considered: u8, out: &mut [u8]) -> usize {
     match fault {
-        lanes::Fault::AtDesk(at_desk) => {
-            answers::refused_count(out, desk::number(at_desk), considered)
-        }
+        Fault::AtDesk(at_desk) => answers::refused_count(out, desk::number(at_desk), considered),
         _ => answers::refused(out, lanes::number(fault)),
     }
 }
@@ -150,10 +148,10 @@ fn withdraw(hall: Hall, w: Words, line: &[u8], out: &mut [u8]) -> Told {
     bad(hall, out)
 }
 
-fn withdrawn(answer: Withdrawing, out: &mut [u8]) -> usize {
+fn withdrawn(answer: Result<(), Fault>, out: &mut [u8]) -> usize {
     match answer {
-        Withdrawing::Refused(fault) => answers::refused(out, lanes::number(fault)),
-        Withdrawing::Done => answers::ok(out),
+        Err(fault) => answers::refused(out, lanes::number(fault)),
+        Ok(()) => answers::ok(out),
     }
 }
 

@@ -1,5 +1,6 @@
 -- What is promised of the calls that list: the laws that callers may cite.
 -- Assumes nothing.
+use Rattle.std.specs.Prelude.{Ok, Err}
 use Rattle.std.proofs.Common.{◌≡◌, ℕ, suc, ◌+◌, ◌-◌, ◌<◌, ◌≤◌, Bool, true, false, cond, ltb, ◌⊎◌, List, [], ◌∷◌, ◌++◌, length, drop, sym, refl, ap, ◌∙◌, inl, inr, add-zero, arith, length-append, ltb-false, ltb-true, le-ltb, lt-ltb}
 use mathlib.Core.Option.{Option, some, none}
 use Rattle.rows.specs.Rows.{passed_up, raised, Numbered}
@@ -15,8 +16,6 @@ use Rattle.receiver.proofs.Goes.{next_place}
 use Rattle.receiver.proofs.Laws.{step_ranked}
 use Rattle.lister.specs.declared.Listing.{Listing}
 use Rattle.lister.specs.declared.Listed.{Listed}
-use Rattle.lister.specs.declared.Outcome.TheVariants as outcome
-use Rattle.lister.specs.declared.Outcome.TheVariants.{Done}
 use Rattle.lister.specs.Text.{longest_line, Poured, poured, behind, text_told, onward, carried, pour, pour_answer, pour_of, list_outcome, list_told, listed, Begins, Lists}
 use Rattle.lister.proofs.Pouring.{lines_short}
 
@@ -64,12 +63,12 @@ pour_moves l room [] any space = absurd (omega arith)
 pour_moves l room (b ∷ rest) any space = rw (le-ltb room longest_line space) (omega arith)
 
 pub list_moves : (l : Listing) (chunk room : List ℕ) (r : Listed) (room' : List ℕ) → Lists l chunk room r room'
-    → 0 < length chunk → longest_line ≤ length room → r.outcome ≡ Done → 0 < r.taken
+    → 0 < length chunk → longest_line ≤ length room → r.outcome ≡ Ok tt → 0 < r.taken
 unfolding pour_of
 list_moves l chunk room r room' p any space done =
     rw (ap (λ (r : Listed). r.taken) p.0) (by (step_refusal l.receiver chunk) (sym (ap (λ (r : Listed). r.outcome) p.0) ∙ done))
   where
-    by : (f : Option Fault) → list_outcome f ≡ Done → 0 < (pour_answer f l (pour l (length room) chunk)).taken
+    by : (f : Option Fault) → list_outcome f ≡ Ok tt → 0 < (pour_answer f l (pour l (length room) chunk)).taken
     by (some f) e = clash (cc)
     by none e = pour_moves l (length room) chunk any space
 
@@ -91,14 +90,14 @@ pour_stops l room (b ∷ rest) =
         inr (omega arith)
 
 -- a call goes on to the chunk's end, or until what is left of the room holds no line
-pub list_stops : (l : Listing) (chunk room : List ℕ) (r : Listed) (room' : List ℕ) → Lists l chunk room r room' → r.outcome ≡ Done
+pub list_stops : (l : Listing) (chunk room : List ℕ) (r : Listed) (room' : List ℕ) → Lists l chunk room r room' → r.outcome ≡ Ok tt
     → (r.taken ≡ length chunk) ⊎ (length room - r.size < longest_line)
 unfolding pour_of
 list_stops l chunk room r room' p done =
     rw (ap (λ (r : Listed). r.taken) p.0, ap (λ (r : Listed). r.size) p.0)
     (by (step_refusal l.receiver chunk) (sym (ap (λ (r : Listed). r.outcome) p.0) ∙ done))
   where
-    by : (f : Option Fault) → list_outcome f ≡ Done → Stops (length room) chunk (pour_answer f l (pour l (length room) chunk))
+    by : (f : Option Fault) → list_outcome f ≡ Ok tt → Stops (length room) chunk (pour_answer f l (pour l (length room) chunk))
     by (some f) e = clash (cc)
     by none e = pour_stops l (length room) chunk
 
@@ -130,14 +129,14 @@ module _ (l : Listing) (chunk room room' : List ℕ) (r : Listed) (lists : Lists
       by none = pour_place l (length room) chunk
 
   -- a chunk that is not refused has its places
-  pub list_fits : r.outcome ≡ Done → l.receiver.place + length chunk ≤ largest
+  pub list_fits : r.outcome ≡ Ok tt → l.receiver.place + length chunk ≤ largest
   unfolding step_refusal
   list_fits done =
       ltb-false largest (l.receiver.place + length chunk)
       (first_false (ltb largest (l.receiver.place + length chunk)) PastLargest none
       (by (step_refusal l.receiver chunk) (sym (ap (λ (x : Listed). x.outcome) lists.0) ∙ done))).0
     where
-      by : (o : Option Fault) → list_outcome o ≡ Done → o ≡ none
+      by : (o : Option Fault) → list_outcome o ≡ Ok tt → o ≡ none
       by (some f) e = clash cc
       by none e = refl
 
@@ -187,7 +186,7 @@ unfolding CarriesPast pour_of step_refusal
 list_untouched l chunk room past = rw (lt-ltb largest (l.receiver.place + length chunk) past) refl
 
 -- a call that is refused leaves the listing and every byte of the room as they were
-pub list_refusal_keeps : (l : Listing) (chunk room : List ℕ) (r : Listed) (room' : List ℕ) (f : Fault) → Lists l chunk room r room' → r.outcome ≡ outcome.Refused f
+pub list_refusal_keeps : (l : Listing) (chunk room : List ℕ) (r : Listed) (room' : List ℕ) (f : Fault) → Lists l chunk room r room' → r.outcome ≡ Err f
     → (r.listing ≡ l) × (r.taken ≡ 0) × (r.size ≡ 0) × (room' ≡ room)
 unfolding pour_of over
 list_refusal_keeps l chunk room r room' f lists refused = by (step_refusal l.receiver chunk) lists.0 lists.1
@@ -195,7 +194,7 @@ list_refusal_keeps l chunk room r room' f lists refused = by (step_refusal l.rec
     by : (o : Option Fault) → let p = pour_answer o l (pour l (length room) chunk) in r ≡ listed p.listing p.taken (length p.text) (list_outcome o) → room' ≡ over p.text room
         → (r.listing ≡ l) × (r.taken ≡ 0) × (r.size ≡ 0) × (room' ≡ room)
     by (some g) e q = (ap (λ (r : Listed). r.listing) e, ap (λ (r : Listed). r.taken) e, ap (λ (r : Listed). r.size) e, q)
-    by none e q = let done : r.outcome ≡ Done = ap (λ (r : Listed). r.outcome) e in clash (cc)
+    by none e q = let done : r.outcome ≡ (Ok tt) = ap (λ (r : Listed). r.outcome) e in clash (cc)
 
 -- ---- "Show that any two outcomes allowed by it are equal."
 

@@ -1,5 +1,6 @@
 -- A step with the tally lent to it: where the tally is full it is cleared and lent again, and the step is the receiver's own in either case.
 -- Assumes nothing.
+use Rattle.std.specs.Prelude.{Ok, Err, Some, None}
 use Rattle.std.proofs.Common.{◌≡◌, ℕ, Bool, true, false, List, sym, refl, ap, ◌∙◌, true≢false, le-ltb}
 use mathlib.Core.Option.{none}
 use Rattle.lines.specs.declared.Event.{Event}
@@ -8,8 +9,7 @@ use Rattle.receiver.proofs.Chunks.{step_fits}
 use Rattle.receiver.specs.Chunks.{line_in}
 use Rattle.receiver.specs.Parts.{Fits}
 use Rattle.receiver.specs.Receiver.{largest, is_past, step_from, step_of}
-use Rattle.receiver.specs.declared.Answer.{Answer as Ended}
-use Rattle.receiver.specs.declared.Answer.TheVariants as ended
+use Rattle.receiver.specs.Answers.{Answer as Ended}
 use Rattle.receiver.specs.declared.Receiver.{Receiver}
 use Rattle.receiver.specs.declared.Stepped.{Stepped as Ran}
 use Rattle.tally.proofs.Ahead.{never_refused}
@@ -31,9 +31,9 @@ room_cleared event.Dropped = refl
 room_cleared event.Open = refl
 
 not_full_cleared : (a : Ended) → full_at a clear_tally ≡ false
-not_full_cleared (ended.Line line) = room_cleared line.event
-not_full_cleared ended.Nothing = refl
-not_full_cleared (ended.Refused f) = refl
+not_full_cleared (Ok (Some line)) = room_cleared line.event
+not_full_cleared (Ok None) = refl
+not_full_cleared (Err f) = refl
 
 module _ (r : Receiver) (chunk : List ℕ) (fits : Fits r.place chunk) where
   within : is_past r.place chunk ≡ false
@@ -44,9 +44,9 @@ module _ (r : Receiver) (chunk : List ℕ) (fits : Fits r.place chunk) where
 
   -- what was told of a step that was done is the receiver's own answer
   own : (a : Ended) → (step_from r chunk).answer ≡ a → ran_answer (told a) ≡ a
-  own (ended.Line line) e = refl
-  own ended.Nothing e = refl
-  own (ended.Refused f) e = absurd (never_refused r chunk f e)
+  own (Ok (Some line)) e = refl
+  own (Ok None) e = refl
+  own (Err f) e = absurd (never_refused r chunk f e)
 
   -- with a tally that has room for the step's line
   done : (t : Tally) (c : Counted) → Counts t r chunk c → full_at (step_from r chunk).answer t ≡ false
@@ -64,14 +64,14 @@ module _ (r : Receiver) (chunk : List ℕ) (fits : Fits r.place chunk) where
 
   -- what is behind the line, by whether the tally was full
   behind_room : (a : Ended) (t : Tally) → full_at a t ≡ false → with_end a t ≡ tally_on t (line_in a)
-  behind_room (ended.Line line) t e = rw e
-  behind_room ended.Nothing t e = refl
-  behind_room (ended.Refused f) t e = refl
+  behind_room (Ok (Some line)) t e = rw e
+  behind_room (Ok None) t e = refl
+  behind_room (Err f) t e = refl
 
   behind_full : (a : Ended) (t : Tally) → full_at a t ≡ true → with_end a clear_tally ≡ tally_on t (line_in a)
-  behind_full (ended.Line line) t e = rw e
-  behind_full ended.Nothing t e = absurd (true≢false (sym e))
-  behind_full (ended.Refused f) t e = absurd (true≢false (sym e))
+  behind_full (Ok (Some line)) t e = rw e
+  behind_full (Ok None) t e = absurd (true≢false (sym e))
+  behind_full (Err f) t e = absurd (true≢false (sym e))
 
   line_of : line_in (step_from r chunk).answer ≡ line_in (step_of r chunk).answer
   line_of = ap (λ (s : Ran). line_in s.answer) (sym (step_fits r chunk fits))
@@ -82,9 +82,9 @@ module _ (r : Receiver) (chunk : List ℕ) (fits : Fits r.place chunk) where
   refused_by_lem t c counts = go (full_at (step_from r chunk).answer t) refl
     where
       never : (a : Ended) → (step_from r chunk).answer ≡ a → is_refused (told a) ≡ false
-      never (ended.Line line) e = refl
-      never ended.Nothing e = refl
-      never (ended.Refused f) e = absurd (never_refused r chunk f e)
+      never (Ok (Some line)) e = refl
+      never (Ok None) e = refl
+      never (Err f) e = absurd (never_refused r chunk f e)
 
       go : (full : Bool) → full_at (step_from r chunk).answer t ≡ full → is_refused c.stepped.answer ≡ full
       go true e =

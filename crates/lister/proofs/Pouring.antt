@@ -1,5 +1,6 @@
 -- The lines of a chunk, poured into a room.
 -- Assumes nothing.
+use Rattle.std.specs.Prelude.{Ok, Err, Some, None}
 use Rattle.std.proofs.Common.{◌≡◌, ℕ, ◌+◌, ◌-◌, ◌^◌, ◌<◌, ◌≤◌, true, false, List, [], ◌∷◌, ◌++◌, length, take, drop, sym, refl, ap, ◌∙◌, ap₂, ⊎_elim, not-suc-le-zero, add-zero, add_assoc, zero-add, add-one, arith, length-append, length-drop, drop_of_length-le, take_all, drop-drop, le-ltb, lt-ltb}
 use native.Mathlib.Nat.{sub-zero, mod-add-mod}
 use Rattle.lent.specs.Lent.{over, over_at}
@@ -12,14 +13,11 @@ use Rattle.listing.specs.Events.{is_ok, is_refused, is_dropped, total}
 use Rattle.listing.specs.Listing.{lines_text}
 use Rattle.listing.proofs.Events.{no_line_lem, one_line, one_total, no_total}
 use Rattle.receiver.specs.declared.Receiver.{Receiver}
-use Rattle.receiver.specs.declared.Answer.{Answer}
-use Rattle.receiver.specs.declared.Answer.TheVariants.{Nothing, Line, Refused}
+use Rattle.receiver.specs.Answers.{Answer}
 use Rattle.receiver.specs.declared.Stepped.{Stepped}
 use Rattle.lister.specs.declared.Listing.{Listing}
 use Rattle.lister.specs.declared.Listed.{Listed}
 use Rattle.receiver.specs.declared.Fault.TheVariants.{PastLargest}
-use Rattle.lister.specs.declared.Outcome.TheVariants as outcome
-use Rattle.lister.specs.declared.Outcome.TheVariants.{Done}
 use Rattle.receiver.specs.Receiver.{largest, is_past, next, told, stepped, one_more, end_or, step_from, step_refusal, step_of}
 use Rattle.receiver.specs.Chunks.{line_in}
 use Rattle.receiver.proofs.Chunks.{step_fits}
@@ -30,7 +28,7 @@ use Rattle.lister.specs.Parts.{Fills, kinds_in, kind_of}
 
 -- ---- the totals
 
-pub line_kinds : (answer : Answer) (e : Placed) → answer ≡ Line e → kind_of e.event ≡ kinds_in (line_in answer)
+pub line_kinds : (answer : Answer) (e : Placed) → answer ≡ Ok (Some e) → kind_of e.event ≡ kinds_in (line_in answer)
 line_kinds answer e is = rw (is, one_total is_ok e, one_total is_refused e, one_total is_dropped e) refl
 
 pub no_kinds : (answer : Answer) → line_in answer ≡ [] → record { ok = 0; refused = 0; dropped = 0 } ≡ kinds_in (line_in answer)
@@ -38,7 +36,7 @@ no_kinds answer none = rw (none, no_total is_ok, no_total is_refused, no_total i
 
 -- ---- a line in its place
 
-pub line_put : (answer : Answer) (e : Placed) (at : ℕ) (room : List ℕ) {r : ℕ} {part : List ℕ} → answer ≡ Line e → at ≤ length room
+pub line_put : (answer : Answer) (e : Placed) (at : ℕ) (room : List ℕ) {r : ℕ} {part : List ℕ} → answer ≡ Ok (Some e) → at ≤ length room
     → Writes (line_text e.place e.event) (take (length room - at) (drop at room)) r part
     → (r ≡ length (lines_text (line_in answer))) × (take at room ++ (part ++ drop (length room - at) (drop at room)) ≡ over_at at (lines_text (line_in answer)) room)
 line_put answer e at room {part = part} is h w =
@@ -49,9 +47,9 @@ pub no_text : (answer : Answer) (at : ℕ) (room : List ℕ) → line_in answer 
 no_text answer at room none = rw (none, no_line_lem) (refl, sym (over_at_none at room))
 
 pub lines_short : (answer : Answer) → length (lines_text (line_in answer)) ≤ longest_line
-lines_short (Line e) = rw (one_line e) (line_short e.place e.event)
-lines_short Nothing = rw no_line_lem (omega arith)
-lines_short (Refused f) = rw no_line_lem (omega arith)
+lines_short (Ok (Some e)) = rw (one_line e) (line_short e.place e.event)
+lines_short (Ok None) = rw no_line_lem (omega arith)
+lines_short (Err f) = rw no_line_lem (omega arith)
 
 -- ---- pouring, a step at a time
 
@@ -108,8 +106,8 @@ quiet_step l room b rest s none h ih =
     one_first : (t : ℕ) (x : List ℕ) (p : Poured) → behind 1 [] (behind t x p) ≡ behind (t + 1) x p
     one_first t x p = ap (λ (n : ℕ). poured p.listing n (x ++ p.text)) (same t p.taken)
 
-line_step : (l : Listing) (room b : ℕ) (rest : List ℕ) (e : Placed) → told l.receiver b ≡ Line e → longest_line ≤ room
-    → pour l room (b ∷ rest) ≡ pour_by l room (b ∷ rest) (stepped (next l.receiver b) 1 (Line e))
+line_step : (l : Listing) (room b : ℕ) (rest : List ℕ) (e : Placed) → told l.receiver b ≡ Ok (Some e) → longest_line ≤ room
+    → pour l room (b ∷ rest) ≡ pour_by l room (b ∷ rest) (stepped (next l.receiver b) 1 (Ok (Some e)))
 line_step l room b rest e is h =
     pour_cons l room b rest h
     ∙ ap (λ (lines : List Placed). behind 1 (lines_text lines) (pour (counted l lines (next l.receiver b)) (room - length (lines_text lines)) rest)) (ap line_in is)
@@ -181,19 +179,19 @@ module _ (l₀ : Listing) (chunk room₀ : List ℕ) where
 module _ {l₀ : Listing} {chunk room₀ : List ℕ} {l : Listing} {taken size : ℕ} {room : List ℕ} (g : Going l₀ chunk room₀ l taken size room) where
   -- nothing more is poured: the room is full, or the chunk is done
   ends : rest l₀ chunk room₀ l taken size room ≡ poured l 0 [] → let p = whole l₀ chunk room₀ in
-      (listed l taken size Done ≡ listed p.listing p.taken (length p.text) Done) × (room ≡ over p.text room₀)
+      (listed l taken size (Ok tt) ≡ listed p.listing p.taken (length p.text) (Ok tt)) × (room ≡ over p.text room₀)
   ends e = (
-    ap₂ (λ (k : Listing) (n : ℕ × ℕ). listed k n.0 n.1 Done) (sym (ap (λ (p : Poured). p.listing) e) ∙ g.listing_is)
+    ap₂ (λ (k : Listing) (n : ℕ × ℕ). listed k n.0 n.1 (Ok tt)) (sym (ap (λ (p : Poured). p.listing) e) ∙ g.listing_is)
         (ap₂ (λ (a b : ℕ). (a, b))
         (sym (add-zero taken) ∙ ap (λ (p : Poured). taken + p.taken) (sym e) ∙ g.taken_is)
         (sym (add-zero size) ∙ ap (λ (p : Poured). size + length p.text) (sym e) ∙ g.size_is)),
     sym (over_at_none size room) ∙ ap (λ (p : Poured). over_at size p.text room) (sym e) ∙ g.room_is,
   )
 
-  pub ends_full : length room - size < longest_line → Fills l₀ chunk room₀ (listed l taken size Done) room
+  pub ends_full : length room - size < longest_line → Fills l₀ chunk room₀ (listed l taken size (Ok tt)) room
   ends_full h = ends (pour_full l (length room - size) (drop taken chunk) h)
 
-  pub ends_done : length chunk ≤ taken → Fills l₀ chunk room₀ (listed l taken size Done) room
+  pub ends_done : length chunk ≤ taken → Fills l₀ chunk room₀ (listed l taken size (Ok tt)) room
   ends_done h = ends (rw (drop_of_length-le chunk {i = taken} h) (pour_none l (length room - size)))
 
   pub chunk-fits : taken < length chunk → Fits l.receiver.place (take (length chunk - taken) (drop taken chunk))
@@ -269,7 +267,7 @@ module _ {l₀ : Listing} {chunk room₀ : List ℕ} {l : Listing} {taken size :
 -- ---- by 60's test
 
 module _ (l : Listing) (chunk room : List ℕ) where
-  pub list_refused : is_past l.receiver.place chunk ≡ true → Lists l chunk room (listed l 0 0 (outcome.Refused PastLargest)) room
+  pub list_refused : is_past l.receiver.place chunk ≡ true → Lists l chunk room (listed l 0 0 (Err PastLargest)) room
   unfolding pour_of step_refusal over
   list_refused e = rw e (refl, refl)
 

@@ -1,6 +1,7 @@
 -- What the tally of a listing comes to: cleared at first, the listing's own totals as long as they fit it, and begun anew with the line that
 -- would carry a number past the most. 02, #113.
 -- Assumes nothing.
+use Rattle.std.specs.Prelude.{Ok, Err, Some, None}
 use Rattle.std.proofs.Common.{◌≡◌, ℕ, suc, ◌+◌, ◌<◌, ◌≤◌, List, [], ◌∷◌, length, sym, refl, ap, subst, mod-eq_of_lt, arith, le-ltb, lt-ltb}
 use Rattle.lines.specs.declared.Event.{Event}
 use Rattle.lines.specs.declared.Event.TheVariants as event
@@ -9,8 +10,7 @@ use Rattle.listing.specs.Events.{is_ok, is_refused, is_dropped}
 use Rattle.listing.proofs.Events.{one_total, no_total}
 use Rattle.receiver.specs.Chunks.{line_in}
 use Rattle.receiver.specs.Receiver.{next, told}
-use Rattle.receiver.specs.declared.Answer.{Answer}
-use Rattle.receiver.specs.declared.Answer.TheVariants.{Nothing, Line, Refused}
+use Rattle.receiver.specs.Answers.{Answer}
 use Rattle.tally.specs.Tally.{clear_tally, number_for, with_line, Clears}
 use Rattle.tally.specs.declared.Tally.{Tally}
 use Rattle.lister.specs.Text.{tally_after, plus, counted, onward, carried, Begins}
@@ -93,9 +93,9 @@ onward_alike l b n alike room = go (told l.receiver b)
         )
 
     go : (a : Answer) → Behind (line_in a)
-    go (Line e) = line e
-    go Nothing = none
-    go (Refused f) = none
+    go (Ok (Some e)) = line e
+    go (Ok None) = none
+    go (Err f) = none
 
 -- as long as the totals fit it, the tally of a listing has them
 pub tally_is : (l : Listing) (chunk : List ℕ) → Alike l → RoomFor (length chunk) l → Alike (carried l chunk)

@@ -1,5 +1,6 @@
 -- The text of a whole listing, however its bytes were cut and whatever room there was for it.
 -- Assumes nothing.
+use Rattle.std.specs.Prelude.{Ok, Err, Some, None}
 use Rattle.std.proofs.Common.{◌≡◌, ℕ, zero, suc, ◌+◌, ◌-◌, ◌<◌, ◌≤◌, Bool, true, false, cond, ltb, List, [], ◌∷◌, ◌++◌, length, drop, sym, refl, ap, ◌∙◌, ap₂, append_assoc, append-nil, le_of_eq, add-zero, mod-eq_of_lt, zero-add, arith, length-append, length-drop, drop-drop, le-ltb}
 use lib.Seq.{drop-length}
 use Rattle.lines.specs.declared.Event.{Event}
@@ -10,8 +11,7 @@ use Rattle.listing.specs.Events.{events_of, events_from, total, is_ok, is_refuse
 use Rattle.listing.specs.Listing.{lines_text, listing_text}
 use Rattle.listing.proofs.Events.{no_line_lem, one_line, lines-append, no_total, one_total, total-append, one_kind}
 use Rattle.receiver.specs.declared.Receiver.{Receiver}
-use Rattle.receiver.specs.declared.Answer.{Answer}
-use Rattle.receiver.specs.declared.Answer.TheVariants.{Nothing, Line, Refused}
+use Rattle.receiver.specs.Answers.{Answer}
 use Rattle.lister.specs.declared.Listing.{Listing}
 use Rattle.receiver.specs.Receiver.{largest, is_inside, next, told, step_refusal}
 use Rattle.receiver.specs.Chunks.{line_in, open_line, joined}
@@ -75,11 +75,11 @@ went_then p q = went_with p q (moved_then p.moved q.moved)
 
 -- at most one line for a byte
 one_most : (a : Answer) → (total is_ok (line_in a) ≤ 1) × (total is_refused (line_in a) ≤ 1) × (total is_dropped (line_in a) ≤ 1)
-one_most (Line e) =
+one_most (Ok (Some e)) =
     let one : is_ok e.event + (is_refused e.event + (is_dropped e.event + is_open e.event)) ≡ 1 = one_kind e.event in
     rw (one_total is_ok e, one_total is_refused e, one_total is_dropped e) (omega arith, omega arith, omega arith)
-one_most Nothing = rw (no_total is_ok, no_total is_refused, no_total is_dropped) (omega arith, omega arith, omega arith)
-one_most (Refused f) = rw (no_total is_ok, no_total is_refused, no_total is_dropped) (omega arith, omega arith, omega arith)
+one_most (Ok None) = rw (no_total is_ok, no_total is_refused, no_total is_dropped) (omega arith, omega arith, omega arith)
+one_most (Err f) = rw (no_total is_ok, no_total is_refused, no_total is_dropped) (omega arith, omega arith, omega arith)
 
 plus_is : (n more place : ℕ) → n ≤ place → more ≤ 1 → place < largest → plus n more ≡ n + more
 plus_is n more place a b c = mod-eq_of_lt (omega arith)

@@ -1,6 +1,6 @@
 -- What the listing's own functions answer.
 -- Assumes nothing.
-use Rattle.std.specs.Prelude.{◌≡◌, ℕ, Bool, true, false, List, length}
+use Rattle.std.specs.Prelude.{◌≡◌, ℕ, Bool, true, false, List, length, Ok, Err, Some, None}
 use Rattle.lent.specs.Lent.{over}
 use Rattle.lines.specs.declared.Event.{Event}
 use Rattle.lines.specs.declared.Placed.{Placed}
@@ -9,15 +9,12 @@ use Rattle.listing.specs.Events.{is_refused as is_refused_line}
 use Rattle.lister.specs.declared.Kinds.{Kinds}
 use Rattle.lister.specs.declared.Listing.{Listing}
 use Rattle.lister.specs.declared.Listed.{Listed}
-use Rattle.lister.specs.declared.Outcome.TheVariants.{Done}
 use Rattle.lister.specs.declared.Lent.{Lent}
 use Rattle.receiver.specs.Chunks.{line_in}
 use Rattle.receiver.specs.Receiver.{step_of}
-use Rattle.receiver.specs.declared.Answer.{Answer as Ended}
-use Rattle.receiver.specs.declared.Answer.TheVariants as ended
+use Rattle.receiver.specs.Answers.{Answer as Ended}
 use Rattle.receiver.specs.declared.Receiver.{Receiver}
-use Rattle.tally.specs.declared.Answer.{Answer}
-use Rattle.tally.specs.declared.Answer.TheVariants.{Nothing, Line, Refused}
+use Rattle.tally.specs.Answers.{Answer}
 use Rattle.tally.specs.declared.Counted.{Counted}
 use Rattle.tally.specs.declared.Tally.{Tally}
 use Rattle.lister.specs.Text.{pour, listed, tally_on}
@@ -32,15 +29,15 @@ kind_of event = record { ok = is_ok event; refused = is_refused_line event; drop
 -- ---- a step with the tally lent to it, and lent again where it is full
 
 abbrev pub is_refused : Answer → Bool
-is_refused Nothing = false
-is_refused (Line line) = false
-is_refused (Refused f) = true
+is_refused (Ok None) = false
+is_refused (Ok (Some line)) = false
+is_refused (Err f) = true
 
 -- the receiver's own answer, of a step that was done
 abbrev pub ran_answer : Answer → Ended
-ran_answer Nothing = ended.Nothing
-ran_answer (Line line) = ended.Line line
-ran_answer (Refused f) = ended.Nothing
+ran_answer (Ok None) = Ok None
+ran_answer (Ok (Some line)) = Ok (Some line)
+ran_answer (Err f) = Ok None
 
 abbrev pub ran_on : Counted → Lent
 ran_on c =
@@ -57,4 +54,4 @@ Lends t r chunk lent = (lent.stepped ≡ step_of r chunk) × (lent.tally ≡ tal
 abbrev pub Fills : Listing → List ℕ → List ℕ → Listed → List ℕ → Type 0
 Fills l chunk room r room' =
     let p = pour l (length room) chunk in
-    (r ≡ listed p.listing p.taken (length p.text) Done) × (room' ≡ over p.text room)
+    (r ≡ listed p.listing p.taken (length p.text) (Ok tt)) × (room' ≡ over p.text room)

@@ -1,6 +1,6 @@
 -- The lines of a chunk as text, in a room that somebody lent; and the text of a whole listing, however its bytes were cut.
 -- Assumes nothing.
-use Rattle.std.specs.Prelude.{◌≡◌, ℕ, zero, suc, ◌+◌, ◌-◌, ◌%◌, ◌^◌, cond, List, [], ◌∷◌, ◌++◌, length, drop, nat_lt}
+use Rattle.std.specs.Prelude.{◌≡◌, ℕ, zero, suc, ◌+◌, ◌-◌, ◌%◌, ◌^◌, cond, List, [], ◌∷◌, ◌++◌, length, drop, nat_lt, Ok, Err}
 use Rattle.std.proofs.Math.Option.{Option, some, none}
 use Rattle.lent.specs.Lent.{over}
 use Rattle.lines.specs.declared.Event.{Event}
@@ -12,8 +12,7 @@ use Rattle.receiver.specs.declared.Receiver.{Receiver}
 use Rattle.receiver.specs.declared.Fault.{Fault}
 use Rattle.lister.specs.declared.Listing.{Listing}
 use Rattle.lister.specs.declared.Listed.{Listed}
-use Rattle.lister.specs.declared.Outcome.{Outcome}
-use Rattle.lister.specs.declared.Outcome.TheVariants.{Done, Refused}
+use Rattle.lister.specs.Answers.{Outcome}
 use Rattle.receiver.specs.Receiver.{outside_at, is_inside, next, told, step_refusal, fault_number}
 use Rattle.receiver.specs.Chunks.{line_in}
 use Rattle.tally.specs.Tally.{clear_tally, is_full, with_line}
@@ -94,13 +93,13 @@ unfoldable pub pour_of : Listing → ℕ → List ℕ → Poured
 pour_of l room chunk = pour_answer (step_refusal l.receiver chunk) l (pour l room chunk)
 
 abbrev pub list_outcome : Option Fault → Outcome
-list_outcome (some f) = Refused f
-list_outcome none = Done
+list_outcome (some f) = Err f
+list_outcome none = Ok tt
 
 -- the number that a call tells, or none
 abbrev pub list_told : Outcome → Option ℕ
-list_told (Refused f) = some (fault_number f)
-list_told Done = none
+list_told (Err f) = some (fault_number f)
+list_told (Ok _) = none
 
 -- what is left to say at the capture's end
 abbrev pub end_text : Listing → List ℕ

@@ -37,18 +37,12 @@ struct Lent {
     stepped: Stepped,
 }
 
-// What became of a chunk that was to be listed.
-#[derive(Clone, Copy)]
-pub enum Outcome {
-    Done,
-    Refused(Fault),
-}
-
 // The listing afterwards, how many bytes of the chunk it took, and how many bytes of text it wrote.
 #[derive(Clone, Copy)]
 pub struct Listed {
     pub listing: Listing,
     pub taken: usize,
     pub size: usize,
-    pub outcome: Outcome,
+    // what became of the chunk
+    pub outcome: Result<(), Fault>,
 }

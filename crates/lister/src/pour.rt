@@ -6,10 +6,9 @@ ghost use Rattle.lister.specs.Parts.{Fills, Lends, kinds_in, kind_of, ran_on, ra
 ghost use Rattle.listing.specs.Listing.{lines_text};
 ghost use Rattle.lines.specs.Lines.{Writes};
 ghost use Rattle.lent.specs.Lent.{over_at};
-ghost use Rattle.lister.specs.declared.Outcome.TheVariants.{Done};
-ghost use Rattle.std.specs.Prelude.{◌≡◌, ◌≤◌, length};
+ghost use Rattle.std.specs.Prelude.{◌≡◌, ◌≤◌, length, Ok};
 
-use crate::{Kinds, LONGEST_LINE, Lent, Listed, Listing, Outcome};
+use crate::{Kinds, LONGEST_LINE, Lent, Listed, Listing};
 use lines::Event;
 use receiver::{Answer, Fault, Receiver, Stepped, carries_past, fresh};
 use std::num::wrapping_add_u64;
@@ -40,7 +39,7 @@ pub fn list(listing: Listing, chunk: &[u8], room: &mut [u8]) -> Listed
             listing,
             taken: 0,
             size: 0,
-            outcome: Outcome::Refused(Fault::PastLargest),
+            outcome: Err(Fault::PastLargest),
         };
     }
     fill(listing, chunk, room)
@@ -101,13 +100,7 @@ fn lent_to(tally: Tally, receiver: Receiver, chunk: &[u8]) -> Lent
 fn is_refused(counted: Counted) -> bool
     ensures { result ≡ is_refused counted.stepped.answer }
 {
-    let stepped = counted.stepped;
-    let answer = stepped.answer;
-    match answer {
-        tally::Answer::Nothing => false,
-        tally::Answer::Line(_) => false,
-        tally::Answer::Refused(_) => true,
-    }
+    counted.stepped.answer.is_err()
 }
 
 // The receiver's own step, of one that was done.
@@ -131,21 +124,17 @@ fn ran(counted: Counted) -> Lent
 fn ran_answer(answer: tally::Answer) -> Answer
     ensures { result ≡ ran_answer answer }
 {
-    match answer {
-        tally::Answer::Nothing => Answer::Nothing,
-        tally::Answer::Line(line) => Answer::Line(line),
-        tally::Answer::Refused(_) => Answer::Nothing,
-    }
+    Ok(answer.unwrap_or(None))
 }
 
 fn done(listing: Listing, taken: usize, size: usize) -> Listed
-    ensures { result ≡ listed listing taken size Done }
+    ensures { result ≡ listed listing taken size (Ok tt) }
 {
     Listed {
         listing,
         taken,
         size,
-        outcome: Outcome::Done,
+        outcome: Ok(()),
     }
 }
 
@@ -156,12 +145,12 @@ fn write_line(answer: Answer, room: &mut [u8], at: usize) -> usize
     ensures { (result ≡ length (lines_text (line_in answer))) × (room.new ≡ over_at at (lines_text (line_in answer)) room.old) }
 {
     match answer {
-        Answer::Line(line) => {
+        Ok(Some(line)) => {
             let event = line.event;
             lines::line(line.place, event, &mut room[at..])
         }
-        Answer::Nothing => 0,
-        Answer::Refused(_) => 0,
+        Ok(None) => 0,
+        Err(_) => 0,
     }
 }
 
@@ -183,16 +172,16 @@ fn kinds_of(answer: Answer) -> Kinds
     ensures { result ≡ kinds_in (line_in answer) }
 {
     match answer {
-        Answer::Line(line) => {
+        Ok(Some(line)) => {
             let event = line.event;
             kind_of(event)
         }
-        Answer::Nothing => Kinds {
+        Ok(None) => Kinds {
             ok: 0,
             refused: 0,
             dropped: 0,
         },
-        Answer::Refused(_) => Kinds {
+        Err(_) => Kinds {
             ok: 0,
             refused: 0,
             dropped: 0,

@@ -1,5 +1,6 @@
 -- What becomes of a frame, by the bytes behind its 13.
 -- Assumes nothing.
+use Rattle.std.specs.Prelude.{Ok, Err}
 use mathlib.Core.Path.{◌≡◌, refl, sym, ap, ◌∙◌}
 use mathlib.Core.Bool.{true, false}
 use mathlib.Core.List.{List, [], ◌∷◌, ◌++◌}
@@ -12,7 +13,6 @@ use lib.ListN.{length, get_or, take, length-append}
 use Rattle.telegram.specs.Read.{read_frame}
 use Rattle.telegram.specs.declared.Fault.{Fault}
 use Rattle.telegram.specs.declared.Fields.{Fields}
-use Rattle.telegram.specs.declared.Reading.TheVariants as reading
 use Rattle.lines.specs.declared.Event.TheVariants.{Read, Refused, Dropped, Open}
 use Rattle.listing.specs.Events.{read_event, frame_event, is_end, to_next, to_next_end, event_of, is_ok, is_refused, is_dropped, is_open}
 use Rattle.listing.specs.Places.{NoEnd}
@@ -63,10 +63,10 @@ module _ (inner more : List ℕ) (none : NoEnd inner) where
 
 -- "and it is read": the reader's fields, or the reader's number
 module _ (frame : List ℕ) (short : length frame ≤ 494) where
-  pub read_fields : (t : Fields) → read_frame frame 240 ≡ reading.Telegram t → frame_event frame ≡ Read t
+  pub read_fields : (t : Fields) → read_frame frame 240 ≡ Ok t → frame_event frame ≡ Read t
   read_fields t e = sym (is_read frame short) ∙ ap read_event e
 
-  pub read_fault : (f : Fault) → read_frame frame 240 ≡ reading.Refused f → frame_event frame ≡ Refused f
+  pub read_fault : (f : Fault) → read_frame frame 240 ≡ Err f → frame_event frame ≡ Refused f
   read_fault f e = sym (is_read frame short) ∙ ap read_event e
 
 -- and each is in its own total, whatever it says; `one_kind` has that it is in no other

@@ -1,6 +1,7 @@
 -- What is promised of the night listing, sentence by sentence.
 -- Assumes nothing.
-use mathlib.Core.Path.{◌≡◌, refl, sym, ap, ap₂, ◌∙◌}
+use Rattle.std.specs.Prelude.{Ok, Err}
+use mathlib.Core.Path.{◌≡◌, refl, sym, ap, ◌∙◌}
 use mathlib.Core.Bool.{Bool, true, false, cond, ◌||◌}
 use mathlib.Core.List.{List, [], ◌∷◌, ◌++◌}
 use mathlib.Core.Logic.{◌⊎◌, inl, inr, ⊎_elim}
@@ -16,12 +17,11 @@ use Rattle.rows.proofs.Laws.{clash}
 use Rattle.telegram.proofs.Faulty.{place_told}
 use Rattle.telegram.specs.Read.{read_frame, FirstFaulty, fault_number, fault_place}
 use Rattle.telegram.specs.declared.Fault.{Fault}
-use Rattle.telegram.specs.declared.Reading.{Reading}
+use Rattle.telegram.specs.Answers.{Reading}
 use Rattle.lines.specs.declared.Event.{Event}
 use Rattle.lines.specs.declared.Event.TheVariants.{Refused, Dropped, Open}
 use Rattle.lines.specs.declared.Placed.{Placed}
 use Rattle.telegram.specs.declared.Fault.TheVariants.{LongMessage}
-use Rattle.telegram.specs.declared.Reading.TheVariants as reading
 use Rattle.listing.specs.Events.{placed, read_event, frame_event, to_next, to_next_end, event_of, events_from, events_of, total, is_ok, is_refused, is_dropped, is_open}
 use Rattle.listing.proofs.Events.{events_none, events_cons, one_kind, no_total, one_total, total-append}
 use Rattle.listing.specs.Places.{In, RisingFrom, Of13, thirteens, shifted}
@@ -144,13 +144,13 @@ module _ (frame : List ℕ) where
       same : Refused LongMessage ≡ Refused f → LongMessage ≡ f
       same e = cc
 
-      read : (q : Reading) → read_event q ≡ Refused f → q ≡ reading.Refused f
-      read (reading.Telegram t) e = clash (cc)
-      read (reading.Refused g) e = cc
+      read : (q : Reading) → read_event q ≡ Refused f → q ≡ Err f
+      read (Ok t) e = clash (cc)
+      read (Err g) e = cc
 
       go : (long : Bool) → cond long (Refused LongMessage) (read_event (read_frame frame 240)) ≡ Refused f → FirstFaulty frame (fault_place f)
       go true e = let five : ◌≡◌ {A = ℕ} 5 (fault_number f) = ap fault_number (same e) in absurd (omega arith)
-      go false e = place_told frame 240 (reading.Refused f) (sym (read (read_frame frame 240) e)) (ap some number)
+      go false e = place_told frame 240 (Err f) (sym (read (read_frame frame 240) e)) (ap some number)
 
 -- a frame that a 10 closed is not open
 pub closed_not_open : (frame : List ℕ) → is_open (frame_event frame) ≡ 0
@@ -159,8 +159,8 @@ closed_not_open frame = go (ltb 494 (length frame)) (read_frame frame 240)
   where
     go : (t : Bool) (r : Reading) → is_open (cond t (Refused LongMessage) (read_event r)) ≡ 0
     go true r = refl
-    go false (reading.Telegram t) = refl
-    go false (reading.Refused f) = refl
+    go false (Ok t) = refl
+    go false (Err f) = refl
 
 open_is : (rest : List ℕ) → (is_open (event_of rest) ≡ 0) ⊎ ((is_open (event_of rest) ≡ 1) × (length rest ≤ to_next_end rest))
 unfolding event_of

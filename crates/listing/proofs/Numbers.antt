@@ -1,10 +1,11 @@
 -- Which numbers can stand in a listing: the listing itself finds the ends of a frame, and the reader has 240 bytes of room.
 -- Assumes nothing.
+use Rattle.std.specs.Prelude.{Ok, Err}
 use mathlib.Core.Path.{◌≡◌, refl, sym, ap, ◌∙◌}
 use mathlib.Core.Bool.{Bool, true, false, cond}
 use mathlib.Core.List.{List, [], ◌∷◌}
 use mathlib.Core.Logic.{◌≢◌, ◌⊎◌, inl, inr, ⊎_elim}
-use Prim.Native.Nat.{ℕ, zero, suc, ◌+◌, ◌-◌, ◌≤◌, ◌<◌}
+use Prim.Native.Nat.{ℕ, zero, suc, ◌+◌, ◌-◌, ◌<◌}
 use native.Mathlib.Omega.{arith}
 use borrow.Author.Tests.{leb-false, eqb-false}
 use lib.Dec.{eqb, leb, ltb}
@@ -17,10 +18,8 @@ use Rattle.telegram.proofs.Ranking.{framed_numbers}
 use Rattle.telegram.specs.Read.{byte, Between, IsNotFramed, HasStrayEnd, read_frame, fault_number}
 use Rattle.telegram.specs.declared.Fault.{Fault}
 use Rattle.telegram.specs.declared.Fault.TheVariants.{LongMessage}
-use Rattle.telegram.specs.declared.Reading.{Reading}
-use Rattle.telegram.specs.declared.Reading.TheVariants as reading
-use Rattle.lines.specs.declared.Event.{Event}
-use Rattle.lines.specs.declared.Event.TheVariants.{Read, Refused, Dropped, Open}
+use Rattle.telegram.specs.Answers.{Reading}
+use Rattle.lines.specs.declared.Event.TheVariants.{Refused, Dropped, Open}
 use Rattle.lines.specs.declared.Placed.{Placed}
 use Rattle.listing.specs.Events.{read_event, frame_event, is_end, to_next_end, event_of, events_of}
 use Rattle.listing.specs.Places.{In}
@@ -71,9 +70,9 @@ module _ (rest : List ℕ) (under : to_next_end rest < length rest) (closes : ge
           let same : byte frame (suc i) ≡ get_or rest i 0 = at i (omega arith) in
           (decides_end (get_or rest i 0)).not_so (none_before is_end rest i l) (⊎_elim (λ e. inl (sym same ∙ e)) (λ e. inr (sym same ∙ e)) s)
 
-refused_event : (r : Reading) (f : Fault) → read_event r ≡ Refused f → r ≡ reading.Refused f
-refused_event (reading.Refused g) f e = ap reading.Refused (let same : g ≡ f = cc in same)
-refused_event (reading.Telegram t) f e = clash (cc)
+refused_event : (r : Reading) (f : Fault) → read_event r ≡ Refused f → r ≡ Err f
+refused_event (Err g) f e = ap Err (let same : g ≡ f = cc in same)
+refused_event (Ok t) f e = clash (cc)
 
 event_numbers : (rest : List ℕ) (f : Fault) → event_of rest ≡ Refused f → stands (fault_number f) (3 ∷ 4 ∷ 5 ∷ 7 ∷ 8 ∷ 9 ∷ []) ≡ true
 unfolding event_of frame_event frame

@@ -1,7 +1,7 @@
 -- 01's own sample, computed from the definitions, and one with what it does not show: bytes outside a frame, dropped frames, and data.
 -- Assumes nothing.
 use mathlib.Core.Path.{◌≡◌, refl}
-use mathlib.Core.List.{List, [], ◌∷◌, ◌++◌}
+use mathlib.Core.List.{[], ◌∷◌, ◌++◌}
 use lib.ListN.{replicate}
 use Rattle.remainder.specs.Remainder.{remainder_of, with_bytes, with_byte, times_x, times_xs}
 use Rattle.frame.specs.Frame.{message_of, between, restored}

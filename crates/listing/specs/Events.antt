@@ -1,19 +1,18 @@
 -- What a captured line holds: "Bytes outside a frame are passed over. A 13 opens a frame, a second 13 drops it and opens another, a 10 closes
 -- it and it is read." So each 13 has one event, and the next 10 or 13 after it decides which.
 -- Assumes nothing.
-use Rattle.std.specs.Prelude.{Bool, cond, ◌||◌, List, [], ◌∷◌, ◌++◌, ℕ, suc, ◌+◌, eqb, leb, ltb, length, get_or, take}
+use Rattle.std.specs.Prelude.{Bool, cond, ◌||◌, List, [], ◌∷◌, ◌++◌, ℕ, suc, ◌+◌, eqb, leb, ltb, length, get_or, take, Ok, Err}
 use Rattle.telegram.specs.Read.{read_frame}
 use Rattle.telegram.specs.declared.Fault.TheVariants.{LongMessage}
-use Rattle.telegram.specs.declared.Reading.{Reading}
+use Rattle.telegram.specs.Answers.{Reading}
 use Rattle.lines.specs.declared.Event.{Event}
 use Rattle.lines.specs.declared.Event.TheVariants.{Read, Refused, Dropped, Open}
 use Rattle.lines.specs.declared.Placed.{Placed}
-use Rattle.telegram.specs.declared.Reading.TheVariants as reading
 
 -- what the frame reader says
 abbrev pub read_event : Reading → Event
-read_event (reading.Telegram t) = Read t
-read_event (reading.Refused f) = Refused f
+read_event (Ok t) = Read t
+read_event (Err f) = Refused f
 
 -- the event of a frame that a 10 closed: 02's #101, "a frame over 494 bytes is refused 5, ahead of numbers 2 to 4".
 -- "The reader has 240 bytes of room here."

@@ -1,6 +1,8 @@
 -- The program's loop over a piece: that it goes on, and ends.
 -- Assumes nothing.
-use mathlib.Core.Path.{◌≡◌, sym, ap, ◌∙◌}
+use Rattle.std.specs.Prelude.{Result, Ok, Err}
+use Rattle.std.specs.Result.{is_err}
+use mathlib.Core.Path.{◌≡◌, refl, sym, ap, ◌∙◌}
 use mathlib.Core.Bool.{Bool, true, false, true≢false}
 use mathlib.Core.List.{List}
 use Prim.Native.Nat.{ℕ, ◌+◌, ◌-◌, ◌≤◌, ◌<◌}
@@ -10,7 +12,6 @@ use lib.Seq.{drop-drop}
 use Rattle.lent.proofs.Laws.{length_over}
 use Rattle.lister.specs.declared.Listing.{Listing}
 use Rattle.lister.specs.declared.Listed.{Listed}
-use Rattle.lister.specs.declared.Outcome.TheVariants.{Done}
 use Rattle.receiver.specs.Receiver.{largest}
 use Rattle.lister.specs.Text.{longest_line, carried, Lists}
 use Rattle.lister.proofs.Laws.{list_within, list_moves, list_place, list_fits, list_carries}
@@ -36,13 +37,13 @@ module _ {piece room₀ : List ℕ} {l₀ : Listing} {room : List ℕ} {l : List
   pub within : (r.size ≤ length room') × (r.taken ≤ length piece - taken)
   within = let w = list_within l (take (length piece - taken) (drop taken piece)) room r room' lists in (w.0, omega (arith, w.1, left))
 
-  pub less : taken < length piece → longest_line ≤ length room₀ → r.outcome ≡ Done → length piece - (taken + r.taken) < length piece - taken
+  pub less : taken < length piece → longest_line ≤ length room₀ → r.outcome ≡ Ok tt → length piece - (taken + r.taken) < length piece - taken
   less under wide done =
       let space : longest_line ≤ length room = rw so_far.room_long wide in
       let moves = list_moves l (take (length piece - taken) (drop taken piece)) room r room' lists (omega (arith, left)) space done in
       omega (arith, moves, within.1)
 
-  pub coming : taken < length piece → r.outcome ≡ Done → Coming piece room₀ l₀ room' r.listing (taken + r.taken)
+  pub coming : taken < length piece → r.outcome ≡ Ok tt → Coming piece room₀ l₀ room' r.listing (taken + r.taken)
   coming under done =
       let on = list_place l (take (length piece - taken) (drop taken piece)) room room' r lists in
       let fits = list_fits l (take (length piece - taken) (drop taken piece)) room room' r lists done in
@@ -64,6 +65,11 @@ all_taken so_far done some_bytes = (omega (arith, so_far.moved), so_far.in_place
 pub all_carried : {piece room₀ : List ℕ} {l₀ : Listing} {room : List ℕ} {l : Listing} {taken : ℕ} → Coming piece room₀ l₀ room l taken → length piece ≤ taken → l ≡ carried l₀ piece
 unfolding carried
 all_carried {piece} {l = l} {taken} so_far done = ap (carried l) (sym (drop_of_length-le piece {i = taken} done)) ∙ so_far.carries
+
+-- what was not refused was listed
+pub done_lem : {E : Type 0} (r : Result Unit E) → is_err r ≡ false → r ≡ Ok tt
+done_lem (Ok tt) _ = refl
+done_lem (Err fault) e = absurd (true≢false e)
 
 -- what is over owes nothing
 pub is_over_lem : {A : Type 0} {over : Bool} → over ≡ true → over ≡ false → A

@@ -5,7 +5,7 @@
 ghost use Rattle.night.specs.Turns.{Onward, Carries};
 ghost use Rattle.std.specs.Prelude.{◌≡◌, true, ◌≤◌, ◌<◌, length};
 
-use lister::{Listing, Outcome};
+use lister::Listing;
 use std::io::{Read, Stdin};
 use std::rt::HostRuntime;
 
@@ -79,10 +79,9 @@ fn list(listing: Listing, piece: &[u8], room: &mut [u8]) -> Turn
     // Goes on by what each room full listed, which no range does.
     while taken < piece.len() {
         let listed = lister::list(so_far, &piece[taken..], room);
-        let outcome = listed.outcome;
-        let Outcome::Done = outcome else {
+        if listed.outcome.is_err() {
             return unread(so_far);
-        };
+        }
         let size = listed.size;
         if !io::write_all(STDOUT_FILENO, &room[0..size]) {
             return over(so_far);

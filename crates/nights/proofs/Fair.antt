@@ -1,5 +1,6 @@
 -- The turn is fair: an address comes back only after every other one was given, or passed over because it was open or rested.
 -- Assumes nothing.
+use Rattle.desk.specs.Answers.{opening}
 use mathlib.Core.Path.{◌≡◌, refl, sym, ◌∙◌, subst, ap}
 use mathlib.Core.Bool.{Bool, true, false, true≢false}
 use mathlib.Core.List.{List, [], ◌∷◌, ◌++◌}
@@ -21,7 +22,6 @@ use Rattle.desk.specs.Reply.{reply_refusal, book_answer, book_desk}
 use Rattle.desk.specs.declared.Desk.{Desk}
 use Rattle.desk.specs.declared.Fault.{Fault}
 use Rattle.desk.specs.declared.AfterOpen.{AfterOpen}
-use Rattle.desk.specs.declared.Opening.TheVariants.{Opened}
 use Rattle.request.specs.declared.Request.{Request}
 use Rattle.telegram.specs.Read.{fields_in}
 use Rattle.telegram.specs.declared.Fields.{Fields}
@@ -108,7 +108,7 @@ opening_sweeps desk asked bytes clock room e =
 
 -- an opening that was answered with an address gives its place, so that what follows is said of every opening
 pub opened_gives : (desk : Desk) (asked : Request) (bytes : List ℕ) (clock : ℕ) (room : List ℕ) (r : AfterOpen) (room' : List ℕ)
-    → Opens desk asked bytes clock room r room' → (place n : ℕ) → r.answer ≡ Opened (161 + place) n → GivesAt desk (asks asked bytes clock room) place clock
+    → Opens desk asked bytes clock room r room' → (place n : ℕ) → r.answer ≡ opening (161 + place) n → GivesAt desk (asks asked bytes clock room) place clock
 opened_gives desk asked bytes clock room r room' opens place n e =
     let o = opened_fit desk asked bytes clock room r room' opens (161 + place) n e in
     let same : place ≡ given_place desk clock = omega (arith, o.1) in

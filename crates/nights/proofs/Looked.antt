@@ -1,5 +1,7 @@
 -- 02, #108, over any sequence of calls from a fresh desk: what an opening considered, whatever was called before it.
 -- Assumes nothing.
+use Rattle.desk.specs.Answers.{opening}
+use Rattle.std.specs.Prelude.{Err}
 use mathlib.Core.Path.{◌≡◌, refl}
 use mathlib.Core.List.{List}
 use Prim.Native.Nat.{ℕ, ◌<◌}
@@ -12,7 +14,6 @@ use Rattle.desk.specs.Open.{Opens}
 use Rattle.desk.specs.Outcome.{Considered}
 use Rattle.desk.specs.declared.AfterOpen.{AfterOpen}
 use Rattle.desk.specs.declared.Fault.TheVariants.{NoRoom}
-use Rattle.desk.specs.declared.Opening.TheVariants.{Opened, Refused}
 use Rattle.nights.proofs.Laws.{any_night}
 use Rattle.nights.specs.Night.{Call, after_all}
 
@@ -22,11 +23,11 @@ turn_within_then calls = (refl, (any_night calls).sound.turn_within)
 
 module _ (calls : List Call) (asked : Request) (bytes : List ℕ) (clock : ℕ) (room : List ℕ) (r : AfterOpen) (room' : List ℕ)
     (opens : Opens (after_all fresh_desk calls) asked bytes clock room r room') where
-  pub considered_then : (address n : ℕ) → r.answer ≡ Opened address n → Considered (after_all fresh_desk calls) clock address r.count
+  pub considered_then : (address n : ℕ) → r.answer ≡ opening address n → Considered (after_all fresh_desk calls) clock address r.count
   considered_then address n e =
       opened_considered (after_all fresh_desk calls) asked bytes clock room r room' opens address n (any_night calls).sound.turn_within e
 
-  pub no_room_considered_then : r.answer ≡ Refused NoRoom
+  pub no_room_considered_then : r.answer ≡ Err NoRoom
       → (address : ℕ)
       × Considered (after_all fresh_desk calls) clock address r.count
       × (length room < length (telegram_for asked.unit address asked.sort asked.register bytes))

@@ -20,9 +20,9 @@ use Rattle.desk.specs.Folder.{holder_place, is_folder_held}
 use Rattle.desk.specs.Open.{distance_of, given_place, open_refusal, open_desk, Opens}
 use Rattle.desk.specs.Reply.{book_refusal, reply_refusal, book_desk, Replies}
 use Rattle.desk.specs.declared.AfterClose.{AfterClose}
-use Rattle.desk.specs.declared.Booking.{Booking}
-use Rattle.desk.specs.declared.Closing.{Closing}
-use Rattle.desk.specs.declared.Opening.{Opening}
+use Rattle.desk.specs.Answers.{Booking}
+use Rattle.desk.specs.Answers.{Closing}
+use Rattle.desk.specs.Answers.{Opening}
 use Rattle.desk.specs.declared.AfterOpen.{AfterOpen}
 use Rattle.desk.specs.declared.AfterReply.{AfterReply}
 use Rattle.desk.specs.declared.Desk.{Desk}

@@ -1,17 +1,14 @@
 -- Nights at the desk: any calls, in any order, from a fresh desk on.
 -- Assumes nothing.
-use Rattle.std.specs.Prelude.{◌≡◌, cond, List, [], ◌∷◌, ◌≢◌, ◌⊎◌, ℕ, ◌+◌, ◌≤◌, ◌<◌, eqb, length}
+use Rattle.std.specs.Prelude.{◌≡◌, cond, List, [], ◌∷◌, ◌≢◌, ◌⊎◌, ℕ, ◌+◌, ◌≤◌, ◌<◌, eqb, length, Ok, Err}
 use Rattle.desk.specs.Close.{cancel_refusal, due_place, expire_refusal, close_answer, close_desk}
 use Rattle.desk.specs.Desk.{ticket_at, ticket_on, OpenOn}
 use Rattle.desk.specs.Open.{given_place, request_at, open_refusal, open_answer, open_desk}
 use Rattle.desk.specs.Reply.{reply_refusal, book_answer, book_desk}
 use Rattle.desk.specs.declared.Desk.{Desk}
-use Rattle.desk.specs.declared.Opening.{Opening}
-use Rattle.desk.specs.declared.Booking.{Booking}
-use Rattle.desk.specs.declared.Closing.{Closing}
-use Rattle.desk.specs.declared.Opening.TheVariants.{Opened, Refused as NotOpened}
-use Rattle.desk.specs.declared.Booking.TheVariants.{Booked, Refused as NotBooked}
-use Rattle.desk.specs.declared.Closing.TheVariants.{Closed, Refused as NotClosed}
+use Rattle.desk.specs.Answers.{Opening, booking, closing, opening}
+use Rattle.desk.specs.Answers.{Booking}
+use Rattle.desk.specs.Answers.{Closing}
 use Rattle.request.specs.declared.Request.{Request}
 use Rattle.telegram.specs.Read.{fields_in}
 use Rattle.ticket.specs.Due.{age}
@@ -44,16 +41,16 @@ after desk (cancels job address clock) = close_desk (cancel_refusal desk job add
 after desk (expires clock) = close_desk (expire_refusal desk clock) desk (161 + due_place desk clock) clock
 
 abbrev pub of_opening : Opening → Request → ℕ → Event
-of_opening (Opened address n) asked clock = opened address asked clock
-of_opening (NotOpened f) asked clock = nothing
+of_opening (Ok told) asked clock = opened told.address asked clock
+of_opening (Err f) asked clock = nothing
 
 abbrev pub of_booking : Booking → List ℕ → Event
-of_booking (Booked job address sort n folder) frame = booked job address (fields_in frame).source sort (fields_in frame).register folder
-of_booking (NotBooked f) frame = nothing
+of_booking (Ok told) frame = booked told.job told.address (fields_in frame).source told.sort (fields_in frame).register told.folder
+of_booking (Err f) frame = nothing
 
 abbrev pub of_closing : Closing → ℕ → Event
-of_closing (Closed job address folder) clock = withdrawn job address folder clock
-of_closing (NotClosed f) clock = nothing
+of_closing (Ok closed) clock = withdrawn closed.job closed.address closed.folder clock
+of_closing (Err f) clock = nothing
 
 unfoldable pub event_of : Desk → Call → Event
 event_of desk (asks asked bytes clock room) =

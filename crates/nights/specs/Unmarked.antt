@@ -9,12 +9,12 @@ use Rattle.desk.specs.Desk.{place_in, address_in, ticket_on}
 use Rattle.desk.specs.Folder.{holder_in, held_by, is_folder_held}
 use Rattle.desk.specs.Open.{place_from, distance_in, distance_of, given_place, request_at, refusal_by, open_refusal, open_answer, open_count, open_room}
 use Rattle.desk.specs.Reply.{unread_or, reply_refusal, book_answer, book_room}
-use Rattle.desk.specs.declared.Booking.{Booking}
-use Rattle.desk.specs.declared.Closing.{Closing}
+use Rattle.desk.specs.Answers.{Booking}
+use Rattle.desk.specs.Answers.{Closing}
 use Rattle.desk.specs.declared.Desk.{Desk}
 use Rattle.desk.specs.declared.Fault.{Fault}
 use Rattle.desk.specs.declared.Fault.TheVariants.{Misfit}
-use Rattle.desk.specs.declared.Opening.{Opening}
+use Rattle.desk.specs.Answers.{Opening}
 use Rattle.request.specs.declared.Request.{Request}
 use Rattle.rows.specs.Rows.{raised, first_row_of}
 use Rattle.telegram.specs.Read.{fields_in, data_in}

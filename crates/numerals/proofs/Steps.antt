@@ -1,5 +1,6 @@
 -- The steps of the functions: what a return or a turn of a loop adds to what is known, over plain lists and numbers.
 -- Assumes nothing.
+use Rattle.std.specs.Prelude.{Some, None}
 use mathlib.Core.Path.{◌≡◌, refl, sym, ◌∙◌}
 use mathlib.Core.Bool.{Bool, true, false, cond, and-false}
 use mathlib.Core.List.{List, []}
@@ -13,8 +14,7 @@ use lib.ListN.{length, get_or, take, drop, drop_of_length-le, length-drop, get_o
 use lib.Seq.{drop-cons, take_all}
 use Rattle.values.specs.declared.Value.{Value}
 use Rattle.values.specs.declared.Value.TheVariants.{Natural, Negative}
-use Rattle.numerals.specs.declared.Amount.{Amount}
-use Rattle.numerals.specs.declared.Amount.TheVariants as amount
+use Rattle.numerals.specs.Answers.{Amount}
 use Rattle.numerals.specs.declared.Numeral.{Numeral}
 use Rattle.numerals.specs.declared.Numeral.TheVariants as numeral
 use Rattle.numerals.specs.Numerals.{digit_of, are_digits, worth, is_minus, unsigned_at, is_hex, base_of, figures_at, figures_of, is_number, amount_of, amount_as, below, value_of}
@@ -41,11 +41,11 @@ fits_on n base d p l h = let low : n * base ≤ 18446744073709551615 - d = (le-d
 pub huge_on : (n base d : ℕ) → 1 ≤ base → d ≤ 16 → (18446744073709551615 - d) / base < n → 2 ^ 64 ≤ n * base + d
 huge_on n base d p l h = let high : 18446744073709551615 - d < n * base = (div-lt_iff_lt-mul p).0 h in omega arith
 
-pub as_is : (n m : ℕ) → n < 2 ^ 64 → n ≡ m → amount.Is n ≡ amount_as m
+pub as_is : (n m : ℕ) → n < 2 ^ 64 → n ≡ m → Some n ≡ amount_as m
 as_is n m h e = rw (← e, lt-ltb n (2 ^ 64) h)
 
 pub as_huge : (base : ℕ) (figures : List ℕ) (n i d : ℕ) → 1 ≤ base → d ≤ 16 → (18446744073709551615 - d) / base < n → i < length figures
-    → d ≡ digit_of (get_or figures i 0) → worth base n (drop i figures) ≡ worth base 0 figures → amount.Huge ≡ amount_as (worth base 0 figures)
+    → d ≡ digit_of (get_or figures i 0) → worth base n (drop i figures) ≡ worth base 0 figures → None ≡ amount_as (worth base 0 figures)
 as_huge base figures n i d p l t h e inv =
     let grown : n * base + d ≤ worth base 0 figures = rw (worth_on base figures n i d h e inv) at (worth_grows base (n * base + d) (drop (i + 1) figures) p) in
     let high : 2 ^ 64 ≤ worth base 0 figures = le_trans (huge_on n base d p l t) grown in
@@ -110,7 +110,7 @@ number_told_lem word at base r e eb h er =
     let some : ltb 0 (length (drop at word)) ≡ true = lt-ltb 0 (length (drop at word)) (rw (length-drop at word) (omega arith)) in
     rw (← e, ← eb, some, er, rest_of word at)
 
-pub amount_none : (word : List ℕ) (at : ℕ) → at ≡ figures_at word → length word < at → amount.Is 0 ≡ amount_as (amount_of word)
+pub amount_none : (word : List ℕ) (at : ℕ) → at ≡ figures_at word → length word < at → Some 0 ≡ amount_as (amount_of word)
 unfolding amount_of figures_of worth
 amount_none word at e h = let none : drop at word ≡ [] = drop_of_length-le word {i = at} (omega arith) in rw (← e, none)
 
@@ -121,28 +121,28 @@ amount_told word at base r e eb er = rw (← e, ← eb, er, rest_of word at)
 
 -- ---- what is read
 
-amount_is : (n m : ℕ) → amount.Is n ≡ amount_as m → (ltb m (2 ^ 64) ≡ true) × (n ≡ m)
+amount_is : (n m : ℕ) → Some n ≡ amount_as m → (ltb m (2 ^ 64) ≡ true) × (n ≡ m)
 amount_is n m = go (ltb m (2 ^ 64))
   where
-    go : (t : Bool) → amount.Is n ≡ cond t (amount.Is m) amount.Huge → (t ≡ true) × (n ≡ m)
+    go : (t : Bool) → Some n ≡ cond t (Some m) None → (t ≡ true) × (n ≡ m)
     go true e = (refl, cc)
     go false e = (cc, cc)
 
-amount_huge : (m : ℕ) → amount.Huge ≡ amount_as m → ltb m (2 ^ 64) ≡ false
+amount_huge : (m : ℕ) → None ≡ amount_as m → ltb m (2 ^ 64) ≡ false
 amount_huge m = go (ltb m (2 ^ 64))
   where
-    go : (t : Bool) → amount.Huge ≡ cond t (amount.Is m) amount.Huge → t ≡ false
+    go : (t : Bool) → None ≡ cond t (Some m) None → t ≡ false
     go true e = cc
     go false e = refl
 
-pub read_is : (word : List ℕ) (r n : Bool) (a : Amount) (size : ℕ) (value : Value) → n ≡ is_number word → n ≡ true → a ≡ amount_as (amount_of word) → a ≡ amount.Is size
+pub read_is : (word : List ℕ) (r n : Bool) (a : Amount) (size : ℕ) (value : Value) → n ≡ is_number word → n ≡ true → a ≡ amount_as (amount_of word) → a ≡ Some size
     → r ≡ is_minus word → value ≡ cond r (below size) (Natural size) → numeral.Is value ≡ numeral_of word
 unfolding numeral_of value_of
 read_is word r n a size value en t ea es er ev =
     let fit = amount_is size (amount_of word) (sym es ∙ ea) in
     rw (← en, t, fit.0, ← fit.1, ← er, ← ev)
 
-pub read_huge : (word : List ℕ) (n : Bool) (a : Amount) → n ≡ is_number word → n ≡ true → a ≡ amount_as (amount_of word) → a ≡ amount.Huge
+pub read_huge : (word : List ℕ) (n : Bool) (a : Amount) → n ≡ is_number word → n ≡ true → a ≡ amount_as (amount_of word) → a ≡ None
     → numeral.Huge ≡ numeral_of word
 unfolding numeral_of
 read_huge word n a en t ea es = rw (← en, t, amount_huge (amount_of word) (sym es ∙ ea))

@@ -1,11 +1,10 @@
 -- Numbers as an operator writes them in a word, and the one way in which they are written back.
 -- Assumes nothing.
-use Rattle.std.specs.Prelude.{◌≡◌, Bool, true, cond, not, ◌&&◌, ◌||◌, List, [], ◌∷◌, ℕ, zero, suc, ◌+◌, ◌-◌, ◌*◌, ◌^◌, eqb, leb, ltb, length, get_or, drop}
+use Rattle.std.specs.Prelude.{◌≡◌, Bool, true, cond, not, ◌&&◌, ◌||◌, List, [], ◌∷◌, ℕ, zero, suc, ◌+◌, ◌-◌, ◌*◌, ◌^◌, eqb, leb, ltb, length, get_or, drop, Some, None}
 use Rattle.text.specs.Text.{decimal}
 use Rattle.values.specs.declared.Value.{Value}
 use Rattle.values.specs.declared.Value.TheVariants.{Natural, Negative}
-use Rattle.numerals.specs.declared.Amount.{Amount}
-use Rattle.numerals.specs.declared.Amount.TheVariants as amount
+use Rattle.numerals.specs.Answers.{Amount}
 use Rattle.numerals.specs.declared.Numeral.{Numeral}
 use Rattle.numerals.specs.declared.Numeral.TheVariants as numeral
 
@@ -89,7 +88,7 @@ is_shortest word = is_short (drop (unsigned_at word) word) && not (is_minus word
 
 -- 64 bits hold it
 abbrev pub amount_as : ℕ → Amount
-amount_as n = cond (ltb n (2 ^ 64)) (amount.Is n) amount.Huge
+amount_as n = cond (ltb n (2 ^ 64)) (Some n) None
 
 unfoldable pub numeral_of : List ℕ → Numeral
 numeral_of word = cond (is_number word) (cond (ltb (amount_of word) (2 ^ 64)) (numeral.Is (value_of word)) numeral.Huge) numeral.Nothing

@@ -7,14 +7,6 @@ ghost use Rattle.numerals.specs.Numerals.{Tells, Reads, Limits, digit_of, are_di
 
 use values::Value;
 
-// How much digits are worth.
-#[derive(Clone, Copy)]
-enum Amount {
-    Is(u64),
-    // 64 bits do not hold it
-    Huge,
-}
-
 // The integer that a word is.
 #[derive(Clone, Copy)]
 pub enum Numeral {
@@ -42,8 +34,8 @@ pub fn read(word: &[u8]) -> Numeral
 {
     if is_number(word) {
         match amount_of(word) {
-            Amount::Is(size) => Numeral::Is(signed(is_minus(word), size)),
-            Amount::Huge => Numeral::Huge,
+            Some(size) => Numeral::Is(signed(is_minus(word), size)),
+            None => Numeral::Huge,
         }
     } else {
         Numeral::Nothing
@@ -160,18 +152,18 @@ fn are_digits(figures: &[u8], base: u64) -> bool
     figures.iter().all(|figure| digit(*figure) < base)
 }
 
-// What the digits of a number are worth.
-fn amount_of(word: &[u8]) -> Amount
+// How much the digits of a number are worth, `None` where 64 bits do not hold it.
+fn amount_of(word: &[u8]) -> Option<u64>
     ensures { result ≡ amount_as (amount_of word.now) }
 {
     let at = figures_at(word);
     if word.len() < at {
-        return Amount::Is(0);
+        return Some(0);
     }
     worth_of(&word[at..], base(word))
 }
 
-fn worth_of(figures: &[u8], base: u64) -> Amount
+fn worth_of(figures: &[u8], base: u64) -> Option<u64>
     requires { (10 ≤ base) × (base ≤ 16) }
     ensures { result ≡ amount_as (worth base 0 figures.now) }
 {
@@ -179,9 +171,9 @@ fn worth_of(figures: &[u8], base: u64) -> Amount
     for figure in figures {
         let d = digit(*figure);
         if (18446744073709551615 - d) / base < n {
-            return Amount::Huge;
+            return None;
         }
         n = n * base + d;
     }
-    Amount::Is(n)
+    Some(n)
 }

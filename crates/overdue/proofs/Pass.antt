@@ -1,6 +1,8 @@
 -- One pass over the addresses does what single expiries do: below the address that is looked at nothing is due any more, so the next
 -- single expiry would close the next due ticket from there on.
 -- Assumes nothing.
+use Rattle.desk.specs.Answers.{closing}
+use Rattle.std.specs.Prelude.{Err}
 use mathlib.Core.Path.{◌≡◌, refl, sym, ap, ap₂, subst, ◌∙◌}
 use mathlib.Core.Bool.{Bool, true, false, ◌&&◌, true≢false}
 use mathlib.Core.List.{List, [], ◌∷◌}
@@ -24,7 +26,6 @@ use Rattle.ticket.specs.Ticket.{no_ticket, withdrawn_at}
 use Rattle.ticket.specs.declared.Ticket.{Ticket}
 use Rattle.desk.specs.declared.Desk.{Desk}
 use Rattle.desk.specs.declared.AfterClose.{AfterClose}
-use Rattle.desk.specs.declared.Closing.TheVariants.{Closed, Refused}
 use Rattle.desk.specs.declared.Fault.TheVariants.{NothingDue}
 use Rattle.overdue.specs.declared.Swept.{Swept}
 use Rattle.overdue.specs.Overdue.{expired, entries, how_many, desk_after, room_in, closed_at, entered_at, ExpiresAll, LooksAt}
@@ -44,11 +45,11 @@ unfolding due_place
 none_here desk clock before = first-none (λ place. is_due clock (ticket_at desk place)) 95 before
 
 pub expired_here : (desk : Desk) (clock k : ℕ) → k < 95 → NoneUnder desk clock k → is_due clock (ticket_at desk k) ≡ true
-    → expired desk clock ≡ record { desk = withdrawn_on desk (161 + k) clock; answer = Closed (ticket_at desk k).asked.job (161 + k) (ticket_at desk k).asked.folder }
+    → expired desk clock ≡ record { desk = withdrawn_on desk (161 + k) clock; answer = closing (ticket_at desk k).asked.job (161 + k) (ticket_at desk k).asked.folder }
 unfolding expired expire_refusal
 expired_here desk clock k h before due = rw (due_here desk clock k h before due, lt-leb 95 k h, on_host desk k)
 
-pub expired_none : (desk : Desk) (clock : ℕ) → NoneUnder desk clock 95 → expired desk clock ≡ record { desk = desk; answer = Refused NothingDue }
+pub expired_none : (desk : Desk) (clock : ℕ) → NoneUnder desk clock 95 → expired desk clock ≡ record { desk = desk; answer = Err NothingDue }
 unfolding expired expire_refusal
 expired_none desk clock before = rw (none_here desk clock before)
 
@@ -106,7 +107,7 @@ start desk list clock =
     }
 
 -- one more of the single calls
-pub one_more : (m : ℕ) (desk next : Desk) (clock job address folder : ℕ) → expired desk clock ≡ record { desk = next; answer = Closed job address folder }
+pub one_more : (m : ℕ) (desk next : Desk) (clock job address folder : ℕ) → expired desk clock ≡ record { desk = next; answer = closing job address folder }
     → (entries (suc m) desk clock ≡ job ∷ address ∷ folder ∷ entries m next clock) × (how_many (suc m) desk clock ≡ suc (how_many m next clock))
     × (desk_after (suc m) desk clock ≡ desk_after m next clock)
 unfolding entries how_many desk_after

@@ -1,7 +1,7 @@
 -- Expiring everything that is due: "One call with a lent list of job and address pairs should do single expiries at one clock reading
 -- until the list is full or nothing is due." 02, #110: "#107's list holds job, address and folder."
 -- Assumes nothing.
-use Rattle.std.specs.Prelude.{◌≡◌, Bool, true, false, List, [], ◌∷◌, ℕ, zero, suc, ◌+◌, ◌*◌, ◌/◌, length, get_or}
+use Rattle.std.specs.Prelude.{◌≡◌, Bool, true, false, List, [], ◌∷◌, ℕ, zero, suc, ◌+◌, ◌*◌, ◌/◌, length, get_or, Ok, Err}
 use Rattle.lent.specs.Lent.{over, over_at}
 use Rattle.desk.specs.Close.{due_place, expire_refusal, close_answer, close_desk, withdrawn_on}
 use Rattle.desk.specs.Desk.{ticket_at, ticket_on}
@@ -9,8 +9,7 @@ use Rattle.ticket.specs.Due.{is_due}
 use Rattle.nights.specs.Night.{Event, withdrawn}
 use Rattle.desk.specs.declared.Desk.{Desk}
 use Rattle.desk.specs.declared.AfterClose.{AfterClose}
-use Rattle.desk.specs.declared.Closing.{Closing}
-use Rattle.desk.specs.declared.Closing.TheVariants.{Closed, Refused}
+use Rattle.desk.specs.Answers.{Closing}
 use Rattle.overdue.specs.declared.Swept.{Swept}
 
 -- what a single call of `expire` gives
@@ -23,12 +22,12 @@ expired desk clock =
 
 -- one entry for a ticket that was closed, its job, its address and its folder, and then the others; none from where nothing is due on
 abbrev pub listed : Closing → List ℕ → List ℕ
-listed (Closed job address folder) others = job ∷ address ∷ folder ∷ others
-listed (Refused f) others = []
+listed (Ok closed) others = closed.job ∷ closed.address ∷ closed.folder ∷ others
+listed (Err f) others = []
 
 abbrev pub counted : Closing → ℕ → ℕ
-counted (Closed job address folder) others = suc others
-counted (Refused f) others = 0
+counted (Ok closed) others = suc others
+counted (Err f) others = 0
 
 -- "State and list are what the single calls would give in that order": of at most so many calls at one clock, what they close, how many
 -- tickets that are, and the desk they leave

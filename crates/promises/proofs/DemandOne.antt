@@ -6,6 +6,7 @@
 -- what there was (`..-keeps`, and the laws of the layers that are cited). Calls that only read have nothing to leave. Every other call has
 -- its layer's `..-settled` too; docs/PROMISES.md has the list. Over any order of calls: Order.antt.
 -- Assumes nothing.
+use Rattle.std.specs.Prelude.{Err}
 use mathlib.Core.Path.{◌≡◌, sym, ◌∙◌}
 use mathlib.Core.List.{List}
 use mathlib.Core.Option.{Option, some, none}
@@ -16,12 +17,9 @@ use Rattle.telegram.proofs.Judge.{reading_refused}
 use Rattle.telegram.specs.Read.{room_after, Reads}
 use Rattle.telegram.specs.Write.{write_answer, write_refusal, telegram_for, Writes}
 use Rattle.telegram.specs.declared.Fault.{Fault as Unreadable}
-use Rattle.telegram.specs.declared.Reading.TheVariants as reading
-use Rattle.telegram.specs.declared.Writing.TheVariants as writing
 use Rattle.values.specs.Values as values
 use Rattle.values.specs.declared.Fault.{Fault as Unfit}
 use Rattle.values.specs.declared.Value.{Value}
-use Rattle.values.specs.declared.Writing.TheVariants as put
 -- ---- "get an answer": exactly one, as the contract of each call says
 
 pub use Rattle.telegram.proofs.Laws.{reads_settled, judges_settled, writes_settled}
@@ -133,22 +131,22 @@ pub use Rattle.sheet_writer.proofs.Laws.{write_refusal_keeps as sheet_write_refu
 pub use Rattle.sheet_editor.proofs.Laws.{remove_refusal_keeps, module_refusal_keeps, add_refusal_keeps as sheet_add_refusal_keeps}
 
 -- `telegram::read`
-pub read_keeps : (frame room : List ℕ) (f : Unreadable) (room' : List ℕ) → Reads frame room (reading.Refused f) room' → room' ≡ room
+pub read_keeps : (frame room : List ℕ) (f : Unreadable) (room' : List ℕ) → Reads frame room (Err f) room' → room' ≡ room
 read_keeps frame room f room' p = p.1 ∙ rw (reading_refused frame (length room) f (sym p.0))
 
 -- `telegram::write`
-pub write_keeps : (d s t r : ℕ) (bytes room : List ℕ) (f : Unreadable) (room' : List ℕ) → Writes d s t r bytes room (writing.Refused f) room' → room' ≡ room
+pub write_keeps : (d s t r : ℕ) (bytes room : List ℕ) (f : Unreadable) (room' : List ℕ) → Writes d s t r bytes room (Err f) room' → room' ≡ room
 write_keeps d s t r bytes room f room' p = go (write_refusal d s t r bytes (length room)) p.0 p.1
   where
-    go : (o : Option Unreadable) → writing.Refused f ≡ write_answer o (length (telegram_for d s t r bytes)) → room' ≡ room_after o (telegram_for d s t r bytes) room → room' ≡ room
+    go : (o : Option Unreadable) → Err f ≡ write_answer o (length (telegram_for d s t r bytes)) → room' ≡ room_after o (telegram_for d s t r bytes) room → room' ≡ room
     go none e q = clash (cc)
     go (some g) e q = q
 
 -- `values::write`
-pub value_write_keeps : (kind : ℕ) (value : Value) (room : List ℕ) (f : Unfit) (room' : List ℕ) → values.Writes kind value room (put.Refused f) room' → room' ≡ room
+pub value_write_keeps : (kind : ℕ) (value : Value) (room : List ℕ) (f : Unfit) (room' : List ℕ) → values.Writes kind value room (Err f) room' → room' ≡ room
 unfolding values.room_after
 value_write_keeps kind value room f room' p = go (values.write_refusal kind value (length room)) _ p.0 p.1
   where
-    go : (o : Option Unfit) (written : List ℕ) → put.Refused f ≡ values.write_answer o → room' ≡ values.room_after o written room → room' ≡ room
+    go : (o : Option Unfit) (written : List ℕ) → Err f ≡ values.write_answer o → room' ≡ values.room_after o written room → room' ≡ room
     go none written e q = clash (cc)
     go (some g) written e q = q

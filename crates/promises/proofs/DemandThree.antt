@@ -3,6 +3,7 @@
 -- bits of the message before substitution, each byte taken highest bit first. Frame it again and offer it with 240 bytes of room. It is
 -- refused as a check fault, closes no ticket and changes no register."
 -- Assumes nothing.
+use Rattle.std.specs.Prelude.{Ok, Err}
 use mathlib.Core.Path.{◌≡◌}
 use mathlib.Core.List.{List}
 use Prim.Native.Nat.{ℕ, ◌≤◌}
@@ -12,17 +13,14 @@ use Rattle.remainder.specs.Remainder.{AlteredNearby}
 use Rattle.telegram.specs.Read.{read_frame, Reads}
 use Rattle.telegram.specs.declared.Fault.TheVariants.{CheckFault}
 use Rattle.telegram.specs.declared.Fields.{Fields}
-use Rattle.telegram.specs.declared.Reading.{Reading}
-use Rattle.telegram.specs.declared.Reading.TheVariants as reading
+use Rattle.telegram.specs.Answers.{Reading}
 use Rattle.bench.specs.Take.{Takes}
 use Rattle.bench.specs.declared.Bench.{Bench}
 use Rattle.bench.specs.declared.Fault.TheVariants as silence
-use Rattle.bench.specs.declared.Taking.TheVariants.{Silent}
 use Rattle.bench.specs.declared.AfterTake.{AfterTake}
 use Rattle.desk.specs.Reply.{Replies}
 use Rattle.desk.specs.declared.Desk.{Desk}
 use Rattle.desk.specs.declared.Fault.TheVariants as refusal
-use Rattle.desk.specs.declared.Booking.TheVariants as booking
 use Rattle.desk.specs.declared.AfterReply.{AfterReply}
 use Rattle.kamzhor.specs.Bench.{GivesTake, take_number}
 use Rattle.kamzhor.specs.Desk.{GivesReply, reply_number}
@@ -47,11 +45,11 @@ pub use Rattle.desk.proofs.Laws.{altered_reply}
 
 -- ---- "Take any accepted message and alter one or more bits [..]"
 
-module _ (frame : List ℕ) (offered : ℕ) (t : Fields) (accepted : read_frame frame offered ≡ reading.Telegram t) (m : List ℕ)
+module _ (frame : List ℕ) (offered : ℕ) (t : Fields) (accepted : read_frame frame offered ≡ Ok t) (m : List ℕ)
     (altered : AlteredNearby (message_of frame) m) where
   -- "It is refused as a check fault", and the lent buffer stays
   pub reader_refuses : (room : List ℕ) (a : Reading) (room' : List ℕ) → 240 ≤ length room → Reads (framed m) room a room'
-      → (a ≡ reading.Refused CheckFault) × (room' ≡ room)
+      → (a ≡ Err CheckFault) × (room' ≡ room)
   reader_refuses = (nearby_noise frame offered t accepted m altered).reader
 
   -- in C too: number 7, and every other field is 0
@@ -61,12 +59,12 @@ module _ (frame : List ℕ) (offered : ℕ) (t : Fields) (accepted : read_frame 
 
   -- "closes no ticket": the whole desk stays, and so does the lent buffer
   pub desk_unchanged : (desk : Desk) (room : List ℕ) (r : AfterReply) (room' : List ℕ) → 240 ≤ length room → Replies desk (framed m) room r room'
-      → (r.answer ≡ booking.Refused (refusal.Unread CheckFault)) × (r.desk ≡ desk) × (room' ≡ room)
+      → (r.answer ≡ Err (refusal.Unread CheckFault)) × (r.desk ≡ desk) × (room' ≡ room)
   desk_unchanged = (nearby_noise frame offered t accepted m altered).desk
 
   -- "and changes no register": the whole bench stays, and there is no answer, with any reply buffer
   pub bench_unchanged : (bench : Bench) (room : List ℕ) (r : AfterTake) (room' : List ℕ) → Takes bench (framed m) room r room'
-      → (r.answer ≡ Silent (silence.Unread CheckFault)) × (r.bench ≡ bench) × (room' ≡ room)
+      → (r.answer ≡ Err (silence.Unread CheckFault)) × (r.bench ≡ bench) × (room' ≡ room)
   bench_unchanged = (nearby_noise frame offered t accepted m altered).bench
 
   -- in C too, of any desk and any bench

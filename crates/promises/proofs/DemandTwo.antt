@@ -2,6 +2,8 @@
 -- written reads back the same, given room for its data, no start or end byte stands inside a frame, and only that frame means that message.
 -- A reply closes exactly the ticket open on its host address, and only where module, reply kind and register fit it."
 -- Assumes nothing.
+use Rattle.desk.specs.Answers.{booking}
+use Rattle.std.specs.Prelude.{Ok}
 use mathlib.Core.Path.{◌≡◌, sym, ap, ◌∙◌, subst}
 use mathlib.Core.List.{List}
 use mathlib.Core.Option.{none}
@@ -12,7 +14,6 @@ use Rattle.rows.proofs.Laws.{done_exactly}
 use Rattle.telegram.proofs.Judge.{reading_telegram}
 use Rattle.telegram.specs.Read.{read_frame, data_in}
 use Rattle.telegram.specs.declared.Fields.{Fields}
-use Rattle.telegram.specs.declared.Reading.TheVariants.{Telegram}
 use Rattle.desk.proofs.Laws.{answers_alone}
 use Rattle.desk.specs.Outcome.{ClosedAlone}
 use Rattle.ticket.proofs.Laws.{fit_ranked}
@@ -22,7 +23,6 @@ use Rattle.desk.specs.Desk.{ticket_on, OpenOn}
 use Rattle.ticket.specs.Ticket.{no_ticket}
 use Rattle.ticket.specs.declared.Ticket.{Ticket}
 use Rattle.desk.specs.declared.Desk.{Desk}
-use Rattle.desk.specs.declared.Booking.TheVariants.{Booked}
 use Rattle.desk.specs.declared.AfterReply.{AfterReply}
 use Rattle.kamzhor.specs.Desk.{GivesReply, reply_given}
 use Rattle.kamzhor.specs.declared.host_desk.AfterDeskReply.{AfterDeskReply}
@@ -136,12 +136,12 @@ pub use Rattle.sheet_editor.proofs.Rising.{without_plainly, others_none, others_
 
 -- "only where": `booked_right`, cited above. And where they fit, it does: the ticket on its destination is answered and closed, alone.
 pub fitting_booked : (desk : Desk) (frame room : List ℕ) (r : AfterReply) (room' : List ℕ) → Replies desk frame room r room'
-    → (t : Fields) → read_frame frame (length room) ≡ Telegram t
+    → (t : Fields) → read_frame frame (length room) ≡ Ok t
     → OpenOn desk t.destination
     → t.source ≡ (ticket_on desk t.destination).asked.unit
     → KindFits (ticket_on desk t.destination).asked.sort t.sort
     → RegisterFits (ticket_on desk t.destination).asked.register t.sort t.register
-    → (r.answer ≡ Booked (ticket_on desk t.destination).asked.job t.destination t.sort t.size (ticket_on desk t.destination).asked.folder)
+    → (r.answer ≡ booking (ticket_on desk t.destination).asked.job t.destination t.sort t.size (ticket_on desk t.destination).asked.folder)
     × ClosedAlone desk t.destination no_ticket r.desk
     × (room' ≡ over (data_in frame) room)
 unfolding reply_refusal book_refusal fit_rows IsWithdrawn IsNoTicket IsOtherModule IsOtherKind IsOtherRegister
@@ -157,7 +157,7 @@ fitting_booked desk frame room r room' replies t read live unit kind register =
 
 -- the same in C's numbers
 pub host_fitting_booked : (desk : Desk) (frame room : List ℕ) (r : AfterDeskReply) (room' : List ℕ) → GivesReply desk frame room r room'
-    → (t : Fields) → read_frame frame (length room) ≡ Telegram t
+    → (t : Fields) → read_frame frame (length room) ≡ Ok t
     → OpenOn desk t.destination
     → t.source ≡ (ticket_on desk t.destination).asked.unit
     → KindFits (ticket_on desk t.destination).asked.sort t.sort

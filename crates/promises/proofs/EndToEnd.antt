@@ -1,5 +1,7 @@
 -- End to end: a request that was opened at the desk, the reply of a bench at that module's address, and the ticket that the reply closes.
 -- Assumes nothing.
+use Rattle.desk.specs.Answers.{booking, opening}
+use Rattle.std.specs.Prelude.{Ok, Err}
 use mathlib.Core.Path.{◌≡◌, refl, sym, ap, ◌∙◌, subst}
 use mathlib.Core.Bool.{Bool, true, false, cond, ◌&&◌}
 use mathlib.Core.List.{List}
@@ -20,7 +22,6 @@ use Rattle.telegram.proofs.Sound.{message_of_framed}
 use Rattle.telegram.specs.Read.{read_refusal, room_after, read_frame, fields_in, data_in}
 use Rattle.telegram.specs.Write.{message_for, telegram_for, fields_for}
 use Rattle.telegram.specs.declared.Fields.{Fields}
-use Rattle.telegram.specs.declared.Reading.TheVariants.{Telegram}
 use Rattle.values.specs.Values.{size_of, bytes_of}
 use Rattle.deeds.proofs.Laws.{read_deed_lem}
 use Rattle.deeds.specs.Deeds.{HasRight, has_right, nack, ack, datagram, read_deed, write_deed, held_deed}
@@ -31,7 +32,6 @@ use Rattle.bench.proofs.Rules.{no_refusal, reply_reads}
 use Rattle.bench.specs.Register.{Held, named, is_held}
 use Rattle.bench.specs.Take.{deed_of, reply_of, IsNotARequest, Takes, Answerable}
 use Rattle.bench.specs.declared.Bench.{Bench}
-use Rattle.bench.specs.declared.Taking.TheVariants.{Answered}
 use Rattle.bench.specs.declared.AfterTake.{AfterTake}
 use Rattle.request.proofs.Laws.{ask_ranked, allowed_writable}
 use Rattle.request.specs.Request.{IsWrongData, ask_rows, ask_refusal}
@@ -48,8 +48,6 @@ use Rattle.desk.specs.Reply.{book_refusal, reply_refusal, answered_on, Replies}
 use Rattle.desk.specs.Desk.{ticket_on, OpenOn}
 use Rattle.desk.specs.declared.Desk.{Desk}
 use Rattle.desk.specs.declared.Fault.TheVariants.{Misfit}
-use Rattle.desk.specs.declared.Opening.TheVariants.{Opened}
-use Rattle.desk.specs.declared.Booking.TheVariants.{Booked, Refused}
 use Rattle.desk.specs.declared.AfterOpen.{AfterOpen}
 use Rattle.desk.specs.declared.AfterReply.{AfterReply}
 use Rattle.kamzhor.specs.Desk.{GivesReply, reply_given}
@@ -103,7 +101,7 @@ answer_fits bench t bytes =
 
 -- of a desk as any calls leave it, and an opening there that was not refused
 module _ (desk : Desk) (sound : SoundDesk desk) (asked : Request) (bytes : List ℕ) (clock : ℕ) (room : List ℕ) (o : AfterOpen) (room' : List ℕ)
-    (opens : Opens desk asked bytes clock room o room') (address n : ℕ) (opened : o.answer ≡ Opened address n) where
+    (opens : Opens desk asked bytes clock room o room') (address n : ℕ) (opened : o.answer ≡ opening address n) where
   -- the request on the line
   abbrev request : List ℕ
   request = take n room'
@@ -144,7 +142,7 @@ module _ (desk : Desk) (sound : SoundDesk desk) (asked : Request) (bytes : List 
   unfolding space
   wide = length-replicate {A = ℕ} 240 0
 
-  request_read : read_frame request 240 ≡ Telegram fields
+  request_read : read_frame request 240 ≡ Ok fields
   request_read = rw wide at (request_reads_back desk asked bytes clock room o room' opens address n opened
       space (read_frame request (length space)) (room_after (read_refusal request (length space)) (data_in request) space)
       (rw wide (allowed_writable asked bytes allowed).0) (refl, refl)).0
@@ -176,7 +174,7 @@ module _ (desk : Desk) (sound : SoundDesk desk) (asked : Request) (bytes : List 
         }
 
     -- it gives a reply
-    pub is_replied : q.answer ≡ Answered (length (reply_of bench fields bytes))
+    pub is_replied : q.answer ≡ Ok (length (reply_of bench fields bytes))
     is_replied =
         let is = (reading_telegram request 240 fields request_read).1 in
         takes.0 ∙ rw (no_refusal bench request fields buffer may, ← is, request_data)
@@ -199,7 +197,7 @@ module _ (desk : Desk) (sound : SoundDesk desk) (asked : Request) (bytes : List 
 
     -- ---- the reply offered to a desk, with 8 bytes of room or more
     module _ (desk₂ : Desk) (room₂ : List ℕ) (enough : 8 ≤ length room₂) (b : AfterReply) (room₂' : List ℕ) (replies : Replies desk₂ reply room₂ b room₂') where
-      reply_read : (read_frame reply (length room₂) ≡ Telegram answer)
+      reply_read : (read_frame reply (length room₂) ≡ Ok answer)
           × (room_after (read_refusal reply (length room₂)) (data_in reply) room₂ ≡ over (bytes_of deed.size deed.value) room₂)
       reply_read =
           reply_reads bench request fields buffer may takes (length (reply_of bench fields bytes)) is_replied room₂ (read_frame reply (length room₂))
@@ -225,7 +223,7 @@ module _ (desk : Desk) (sound : SoundDesk desk) (asked : Request) (bytes : List 
       -- a request opened at the desk, taken by a bench at that module's address with room, gives a reply that the desk books on that very
       -- ticket, while the ticket stands, whatever else was opened and closed since
       pub booked_there : ticket_on desk₂ address ≡ ticket
-          → (b.answer ≡ Booked asked.job address deed.sort deed.size asked.folder)
+          → (b.answer ≡ booking asked.job address deed.sort deed.size asked.folder)
           × ClosedAlone desk₂ address no_ticket b.desk
           × (room₂' ≡ over (bytes_of deed.size deed.value) room₂)
       booked_there on =
@@ -238,7 +236,7 @@ module _ (desk : Desk) (sound : SoundDesk desk) (asked : Request) (bytes : List 
 
       -- offered to a desk whose ticket on that address is another module's, it is 18, and nothing changes
       pub crossed_refused : OpenOn desk₂ address → (ticket_on desk₂ address).asked.unit ≢ asked.unit
-          → (b.answer ≡ Refused (Misfit OtherModule)) × (b.desk ≡ desk₂) × (room₂' ≡ room₂)
+          → (b.answer ≡ Err (Misfit OtherModule)) × (b.desk ≡ desk₂) × (room₂' ≡ room₂)
       unfolding fit_rows IsWithdrawn IsNoTicket IsOtherModule
       crossed_refused live other =
           let there : Ticket = ticket_on desk₂ address in
@@ -250,14 +248,14 @@ module _ (desk : Desk) (sound : SoundDesk desk) (asked : Request) (bytes : List 
 
       -- for a read with the right the data are the register's bytes
       pub read_booked : ticket_on desk₂ address ≡ ticket → asked.sort ≡ 4 → Held bench asked.register → HasRight (named bench asked.register) 1
-          → (b.answer ≡ Booked asked.job address 8 (size_of (named bench asked.register).kind) asked.folder)
+          → (b.answer ≡ booking asked.job address 8 (size_of (named bench asked.register).kind) asked.folder)
           × ClosedAlone desk₂ address no_ticket b.desk
           × (room₂' ≡ over (bytes_of (size_of (named bench asked.register).kind) (named bench asked.register).value) room₂)
       read_booked on is held_there right = rw (datagram_of is held_there right) at (booked_there on)
 
     -- and so at the desk that opened it, at once
     pub end_to_end : (room₂ : List ℕ) → 8 ≤ length room₂ → (b : AfterReply) (room₂' : List ℕ) → Replies o.desk reply room₂ b room₂'
-        → (b.answer ≡ Booked asked.job address deed.sort deed.size asked.folder)
+        → (b.answer ≡ booking asked.job address deed.sort deed.size asked.folder)
         × ClosedAlone o.desk address no_ticket b.desk
         × (room₂' ≡ over (bytes_of deed.size deed.value) room₂)
     end_to_end room₂ enough b room₂' replies = booked_there o.desk room₂ enough b room₂' replies ticket_stands

@@ -2,6 +2,7 @@
 -- number of bits, and for one altered in exactly two bits, anywhere in its up to 1,968 bits. Premises and consequences are those of the mission's
 -- third demand."
 -- Assumes nothing.
+use Rattle.std.specs.Prelude.{Ok, Err}
 use mathlib.Core.Path.{◌≡◌, sym, ap, ◌∙◌}
 use mathlib.Core.Logic.{◌≢◌}
 use mathlib.Core.List.{List}
@@ -19,19 +20,15 @@ use Rattle.telegram.specs.Read.{read_frame, Reads}
 use Rattle.telegram.specs.Write.{message_for, fields_for, Writes}
 use Rattle.telegram.specs.declared.Fault.TheVariants.{CheckFault}
 use Rattle.telegram.specs.declared.Fields.{Fields}
-use Rattle.telegram.specs.declared.Reading.{Reading}
-use Rattle.telegram.specs.declared.Reading.TheVariants as reading
-use Rattle.telegram.specs.declared.Writing.TheVariants.{Written}
+use Rattle.telegram.specs.Answers.{Reading}
 use Rattle.bench.proofs.Laws.{altered_silent}
 use Rattle.bench.specs.Take.{Takes}
 use Rattle.bench.specs.declared.AfterTake.{AfterTake}
 use Rattle.bench.specs.declared.Bench.{Bench}
 use Rattle.bench.specs.declared.Fault.TheVariants as silence
-use Rattle.bench.specs.declared.Taking.TheVariants.{Silent}
 use Rattle.desk.proofs.Laws.{altered_reply}
 use Rattle.desk.specs.Reply.{Replies}
 use Rattle.desk.specs.declared.AfterReply.{AfterReply}
-use Rattle.desk.specs.declared.Booking.TheVariants as booking
 use Rattle.desk.specs.declared.Desk.{Desk}
 use Rattle.desk.specs.declared.Fault.TheVariants as refusal
 use Rattle.kamzhor.proofs.Laws.{frame_as_read}
@@ -57,13 +54,13 @@ pub use Rattle.remainder.proofs.Noise.{two_ones, two_apart, two_seen, seen_below
 
 pub said_out : (m : List ℕ) → CheckFaultFor m
     → ((room : List ℕ) (a : Reading) (room' : List ℕ) → 240 ≤ length room → Reads (framed m) room a room'
-    → (a ≡ reading.Refused CheckFault) × (room' ≡ room))
+    → (a ≡ Err CheckFault) × (room' ≡ room))
     × ((room : List ℕ) (a : FrameAnswer) (room' : List ℕ) → 240 ≤ length room → GivesFrame (framed m) room a room'
     → (a ≡ frame_number 7 0) × (room' ≡ room))
     × ((desk : Desk) (room : List ℕ) (r : AfterReply) (room' : List ℕ) → 240 ≤ length room → Replies desk (framed m) room r room'
-    → (r.answer ≡ booking.Refused (refusal.Unread CheckFault)) × (r.desk ≡ desk) × (room' ≡ room))
+    → (r.answer ≡ Err (refusal.Unread CheckFault)) × (r.desk ≡ desk) × (room' ≡ room))
     × ((bench : Bench) (room : List ℕ) (r : AfterTake) (room' : List ℕ) → Takes bench (framed m) room r room'
-    → (r.answer ≡ Silent (silence.Unread CheckFault)) × (r.bench ≡ bench) × (room' ≡ room))
+    → (r.answer ≡ Err (silence.Unread CheckFault)) × (r.bench ≡ bench) × (room' ≡ room))
     × ((desk : Desk) (room : List ℕ) (r : AfterDeskReply) (room' : List ℕ) → 240 ≤ length room → GivesReply desk (framed m) room r room'
     → (r.answer ≡ reply_number 7 0) × (r.desk ≡ desk) × (room' ≡ room))
     × ((bench : Bench) (room : List ℕ) (r : AfterBenchTake) (room' : List ℕ) → GivesTake bench (framed m) room r room'
@@ -72,7 +69,7 @@ said_out m s = (s.reader, s.host, s.desk, s.bench, s.of_host_desk, s.of_host_ben
 
 -- ---- "any accepted message"
 
-module _ (frame : List ℕ) (offered : ℕ) (t : Fields) (accepted : read_frame frame offered ≡ reading.Telegram t) (m : List ℕ) where
+module _ (frame : List ℕ) (offered : ℕ) (t : Fields) (accepted : read_frame frame offered ≡ Ok t) (m : List ℕ) where
   -- any alteration of the same length whose own remainder is not 0
   pub any_noise : length (message_of frame) ≡ length m → remainder_of (combined (message_of frame) m) ≢ 0 → CheckFaultFor m
   any_noise same odd =
@@ -100,7 +97,7 @@ module _ (frame : List ℕ) (offered : ℕ) (t : Fields) (accepted : read_frame 
       }
     where
       seven : (room : List ℕ) (a : Reading) (room' : List ℕ) → 240 ≤ length room → Reads (framed m) room a room'
-          → (a ≡ reading.Refused CheckFault) × (room' ≡ room)
+          → (a ≡ Err CheckFault) × (room' ≡ room)
       seven = altered_reads frame offered t accepted m same odd
 
   -- "altered in an odd number of bits"
@@ -116,8 +113,8 @@ module _ (frame : List ℕ) (offered : ℕ) (t : Fields) (accepted : read_frame 
   nearby_noise a = any_noise a.same_length (burst_seen (combined (message_of frame) m) (nearby_burst a))
 
 -- every message that was written is such a one, with up to 240 bytes of data: altered in any of the three ways it is refused
-module _ (d s t r : ℕ) (bytes room : List ℕ) (n : ℕ) (room' : List ℕ) (written : Writes d s t r bytes room (Written n) room') (m : List ℕ) where
-  taken : read_frame (take n room') (length bytes) ≡ reading.Telegram (fields_for d s t r bytes)
+module _ (d s t r : ℕ) (bytes room : List ℕ) (n : ℕ) (room' : List ℕ) (written : Writes d s t r bytes room (Ok n) room') (m : List ℕ) where
+  taken : read_frame (take n room') (length bytes) ≡ Ok (fields_for d s t r bytes)
   taken =
       let o = reads_settled (take n room') bytes in
       sym o.is_allowed_lem.0 ∙ (reads_back d s t r bytes room n room' written bytes o.outcome.0 o.outcome.1 (omega arith) o.is_allowed_lem).0

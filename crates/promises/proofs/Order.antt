@@ -1,5 +1,6 @@
 -- Demand 1 over any order of calls: each has exactly one outcome, and one that is refused leaves the desk, the benches and the lent buffer.
 -- Assumes nothing.
+use Rattle.std.specs.Prelude.{Ok, Err}
 use mathlib.Core.Path.{◌≡◌, refl, sym, ap, ◌∙◌}
 use mathlib.Core.List.{List, [], ◌∷◌, ◌++◌}
 use mathlib.Core.Option.{Option, some}
@@ -17,11 +18,9 @@ use Rattle.bench.specs.Take.{Takes, take_told}
 use Rattle.bench.specs.declared.AfterBuild.{AfterBuild}
 use Rattle.bench.specs.declared.AfterTake.{AfterTake}
 use Rattle.bench.specs.declared.Bench.{Bench}
-use Rattle.bench.specs.declared.Building.{Building}
-use Rattle.bench.specs.declared.Building.TheVariants as building
+use Rattle.bench.specs.Answers.{Building}
 use Rattle.bench.specs.declared.Fault as silence
-use Rattle.bench.specs.declared.Taking.{Taking}
-use Rattle.bench.specs.declared.Taking.TheVariants as taking
+use Rattle.bench.specs.Answers.{Taking}
 use Rattle.desk.proofs.Laws.{open_refusal_keeps, reply_refusal_keeps, cancel_refusal_keeps, expire_refusal_keeps}
 use Rattle.desk.proofs.Laws.{opens_settled, replies_settled, cancels_settled, expires_settled}
 use Rattle.desk.specs.Close.{Cancels, Expires, close_told}
@@ -30,13 +29,10 @@ use Rattle.desk.specs.Reply.{Replies, book_told}
 use Rattle.desk.specs.declared.AfterClose.{AfterClose}
 use Rattle.desk.specs.declared.AfterOpen.{AfterOpen}
 use Rattle.desk.specs.declared.AfterReply.{AfterReply}
-use Rattle.desk.specs.declared.Booking.{Booking}
-use Rattle.desk.specs.declared.Booking.TheVariants as booking
-use Rattle.desk.specs.declared.Closing.{Closing}
-use Rattle.desk.specs.declared.Closing.TheVariants as closing
+use Rattle.desk.specs.Answers.{Booking}
+use Rattle.desk.specs.Answers.{Closing}
 use Rattle.desk.specs.declared.Fault.{Fault}
-use Rattle.desk.specs.declared.Opening.{Opening}
-use Rattle.desk.specs.declared.Opening.TheVariants as opening
+use Rattle.desk.specs.Answers.{Opening}
 use Rattle.promises.specs.Order.{Lab, Call, lent_to, Answer, told, Outcome, Comes, no_buffer, with_desk, bench_at, with_bench, with_made}
 use Rattle.promises.specs.Order.{Allows, Keeps, AllAllowed, AllKeep}
 use Rattle.promises.specs.Order.{opens, replies, cancels, expires, makes, adds, sets, takes}
@@ -86,25 +82,25 @@ call_settled lab (takes bench frame room) = settles _ _ _ (takes_settled (bench_
 
 -- ---- a refused one leaves what there was
 
-open_refused_lem : (a : Opening) (n : ℕ) → open_told a ≡ some n → (f : Fault) × (a ≡ opening.Refused f)
-open_refused_lem (opening.Refused f) n e = (f, refl)
-open_refused_lem (opening.Opened address m) n e = clash (cc)
+open_refused_lem : (a : Opening) (n : ℕ) → open_told a ≡ some n → (f : Fault) × (a ≡ Err f)
+open_refused_lem (Err f) n e = (f, refl)
+open_refused_lem (Ok opened) n e = clash (cc)
 
-book_refused : (a : Booking) (n : ℕ) → book_told a ≡ some n → (f : Fault) × (a ≡ booking.Refused f)
-book_refused (booking.Refused f) n e = (f, refl)
-book_refused (booking.Booked job address sort m folder) n e = clash (cc)
+book_refused : (a : Booking) (n : ℕ) → book_told a ≡ some n → (f : Fault) × (a ≡ Err f)
+book_refused (Err f) n e = (f, refl)
+book_refused (Ok booked) n e = clash (cc)
 
-close_refused : (a : Closing) (n : ℕ) → close_told a ≡ some n → (f : Fault) × (a ≡ closing.Refused f)
-close_refused (closing.Refused f) n e = (f, refl)
-close_refused (closing.Closed job address folder) n e = clash (cc)
+close_refused : (a : Closing) (n : ℕ) → close_told a ≡ some n → (f : Fault) × (a ≡ Err f)
+close_refused (Err f) n e = (f, refl)
+close_refused (Ok closed) n e = clash (cc)
 
-build_refused : (a : Building) (n : ℕ) → build_told a ≡ some n → (f : silence.Fault) × (a ≡ building.Refused f)
-build_refused (building.Refused f) n e = (f, refl)
-build_refused building.Done n e = clash (cc)
+build_refused : (a : Building) (n : ℕ) → build_told a ≡ some n → (f : silence.Fault) × (a ≡ Err f)
+build_refused (Err f) n e = (f, refl)
+build_refused (Ok _) n e = clash (cc)
 
-take_silent : (a : Taking) (n : ℕ) → take_told a ≡ some n → (f : silence.Fault) × (a ≡ taking.Silent f)
-take_silent (taking.Silent f) n e = (f, refl)
-take_silent (taking.Answered m) n e = clash (cc)
+take_silent : (a : Taking) (n : ℕ) → take_told a ≡ some n → (f : silence.Fault) × (a ≡ Err f)
+take_silent (Err f) n e = (f, refl)
+take_silent (Ok m) n e = clash (cc)
 
 -- the same bench put back
 same_bench : (lab : Lab) (k : ℕ) (bench : Bench) → bench ≡ bench_at lab k → with_bench lab k bench ≡ lab
@@ -197,11 +193,11 @@ module _ (lab : Lab) where
   unfolding Allows
   expires_allowed clock r p = (r, (p, refl), refl, refl)
 
-  pub makes_allowed : (address : ℕ) (bench : Bench) → Makes address (record { answer = building.Done; bench = bench })
+  pub makes_allowed : (address : ℕ) (bench : Bench) → Makes address (record { answer = Ok tt; bench = bench })
       → Allows lab (makes address)
-      (record { answer = answers.building building.Done; lab = record { desk = lab.desk; benches = lab.benches ++ (bench ∷ []) }; room = [] })
+      (record { answer = answers.building (Ok tt); lab = record { desk = lab.desk; benches = lab.benches ++ (bench ∷ []) }; room = [] })
   unfolding Allows
-  makes_allowed address bench p = (record { answer = building.Done; bench = bench }, (p, refl), refl, refl)
+  makes_allowed address bench p = (record { answer = Ok tt; bench = bench }, (p, refl), refl, refl)
 
   pub adds_allowed : (k number kind rights : ℕ) (r : AfterBuild) → Adds (get_or lab.benches k (empty_bench 0)) number kind rights r
       → Allows lab (adds k number kind rights)

@@ -1,7 +1,7 @@
 -- "Numbers for what can't be done": the numbers, of the desk's 15, 17 to 20, 61 and 75, each by inputs that its row alone refuses, and the next that is
 -- not refused, with what the definitions tell there.
 -- Assumes nothing.
-use Rattle.std.specs.Prelude.{Bool, true, ◌&&◌, List, [], ◌∷◌, ℕ, ◌+◌, ◌-◌, ◌^◌, eqb, replicate}
+use Rattle.std.specs.Prelude.{Bool, true, ◌&&◌, List, [], ◌∷◌, ℕ, ◌+◌, ◌-◌, ◌^◌, eqb, replicate, Some, None, Ok}
 use Rattle.std.proofs.Math.Option.{Option}
 use Rattle.frame.specs.Frame.{framed}
 use Rattle.telegram.specs.Read.{read_frame, read_told}
@@ -28,18 +28,16 @@ use Rattle.desk.specs.declared.Desk.{Desk}
 use Rattle.telegram.specs.Read.{fields_in}
 use Rattle.varia.specs.Box.{edge_refusal, attenuation_refusal, fault_number}
 use Rattle.varia.specs.Display.{which_of, display_told}
-use Rattle.varia.specs.declared.Edge.{Edge}
-use Rattle.varia.specs.declared.Edge.TheVariants.{Unknown, Known}
+use Rattle.varia.specs.Answers.{Edge, sent}
 use Rattle.varia.specs.declared.FilterBox.{FilterBox}
-use Rattle.varia.specs.declared.Out.{Out}
-use Rattle.varia.specs.declared.Out.TheVariants as out
+use Rattle.varia.specs.Answers.{Out}
 use Rattle.varia.specs.declared.Pass.{Pass}
 use Rattle.varia.specs.declared.Pass.TheVariants.{Short, Long}
 use Rattle.lanes.specs.Grant.{grant_refusal, grant_told}
 use Rattle.lanes.specs.Join.{join_refusal, join_answer, join_told}
 use Rattle.lanes.specs.Lanes as lanes
 use Rattle.lanes.specs.Withdraw.{withdraw_refusal, withdraw_answer, withdraw_told}
-use Rattle.lanes.specs.declared.Granting.TheVariants.{TakenOut}
+use Rattle.lanes.specs.declared.Turn.TheVariants.{TakenOut}
 use Rattle.lanes.specs.declared.Lanes.{Lanes}
 use Rattle.sheet.specs.Sheet.{count_in, records_in, check_refusal, check_answer, check_told, read_refusal}
 use Rattle.sheet.specs.Sheet as sheet
@@ -275,20 +273,20 @@ refusals =
     ∷ gives (granting (lanes_with 1) 493) 73
     ∷ gives (granting lanes.fresh_lanes 494) 74
     ∷ gives (granting (lanes_with 1) 494) 0
-    ∷ gives (grant_told (TakenOut 7)) 75
+    ∷ gives (grant_told (Ok (TakenOut 7))) 75
     ∷ gives (withdrawing lanes.fresh_lanes 7 1) 55
     ∷ gives (withdrawing (lanes_with 2) 8 1) 55
     ∷ gives (withdrawing (lanes_with 2) 7 0) 55
     ∷ gives (withdrawing (lanes_with 2) 7 3) 55
     ∷ gives (withdrawing (lanes_with 2) 7 2) 0
-    ∷ gives (setting_edge (filters Unknown Unknown (out.Edge 161 Long 5000)) Short 6000) 59
-    ∷ gives (setting_edge (filters (Known 5000) Unknown (out.Edge 161 Short 6000)) Long 5000) 59
-    ∷ gives (setting_edge (filters Unknown (Known 6000) out.Nothing) Short 6000) 63
-    ∷ gives (setting_edge (filters Unknown (Known 6000) out.Nothing) Short 6001) 0
-    ∷ gives (setting_edge (filters (Known 6000) Unknown out.Nothing) Long 6000) 63
-    ∷ gives (setting_edge (filters (Known 6000) Unknown out.Nothing) Long 5999) 0
-    ∷ gives (setting_edge (filters (Known 6000) Unknown out.Nothing) Short 0) 0
-    ∷ gives (setting_edge (filters Unknown (Known 6000) out.Nothing) Long 65535) 0
+    ∷ gives (setting_edge (filters None None (sent 161 Long 5000)) Short 6000) 59
+    ∷ gives (setting_edge (filters (Some 5000) None (sent 161 Short 6000)) Long 5000) 59
+    ∷ gives (setting_edge (filters None (Some 6000) None) Short 6000) 63
+    ∷ gives (setting_edge (filters None (Some 6000) None) Short 6001) 0
+    ∷ gives (setting_edge (filters (Some 6000) None None) Long 6000) 63
+    ∷ gives (setting_edge (filters (Some 6000) None None) Long 5999) 0
+    ∷ gives (setting_edge (filters (Some 6000) None None) Short 0) 0
+    ∷ gives (setting_edge (filters None (Some 6000) None) Long 65535) 0
     ∷ gives (attenuating 1001) 62
     ∷ gives (attenuating 1000) 0
     ∷ gives (showing (1 ∷ []) (1 ∷ 2 ∷ 3 ∷ [])) 64

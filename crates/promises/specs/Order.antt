@@ -1,6 +1,6 @@
 -- Any order of calls on a desk and benches: what a call is, and what its contract allows to come of it.
 -- Assumes nothing.
-use Rattle.std.specs.Prelude.{◌≡◌, List, [], ◌∷◌, ◌++◌, ℕ, get_or, set}
+use Rattle.std.specs.Prelude.{◌≡◌, List, [], ◌∷◌, ◌++◌, ℕ, get_or, set, Ok, Err}
 use Rattle.std.proofs.Math.Option.{Option, some}
 use Rattle.request.specs.declared.Request.{Request}
 use Rattle.values.specs.declared.Value.{Value}
@@ -10,19 +10,18 @@ use Rattle.bench.specs.Take.{Takes, take_told}
 use Rattle.bench.specs.declared.AfterBuild.{AfterBuild}
 use Rattle.bench.specs.declared.AfterTake.{AfterTake}
 use Rattle.bench.specs.declared.Bench.{Bench}
-use Rattle.bench.specs.declared.Building.{Building}
-use Rattle.bench.specs.declared.Building.TheVariants.{Done, Refused as NotBuilt}
-use Rattle.bench.specs.declared.Taking.{Taking}
+use Rattle.bench.specs.Answers.{Building}
+use Rattle.bench.specs.Answers.{Taking}
 use Rattle.desk.specs.Close.{Cancels, Expires, close_told}
 use Rattle.desk.specs.Open.{Opens, open_told}
 use Rattle.desk.specs.Reply.{Replies, book_told}
 use Rattle.desk.specs.declared.AfterClose.{AfterClose}
 use Rattle.desk.specs.declared.AfterOpen.{AfterOpen}
 use Rattle.desk.specs.declared.AfterReply.{AfterReply}
-use Rattle.desk.specs.declared.Booking.{Booking}
-use Rattle.desk.specs.declared.Closing.{Closing}
+use Rattle.desk.specs.Answers.{Booking}
+use Rattle.desk.specs.Answers.{Closing}
 use Rattle.desk.specs.declared.Desk.{Desk}
-use Rattle.desk.specs.declared.Opening.{Opening}
+use Rattle.desk.specs.Answers.{Opening}
 
 pub record Lab : Type 0 where
   pub desk : Desk
@@ -94,8 +93,8 @@ with_bench lab k bench = record { desk = lab.desk; benches = set lab.benches k b
 
 -- a bench that was made stands behind the others
 abbrev pub with_made : Lab → Building → Bench → Lab
-with_made lab Done bench = record { desk = lab.desk; benches = lab.benches ++ (bench ∷ []) }
-with_made lab (NotBuilt f) bench = lab
+with_made lab (Ok _) bench = record { desk = lab.desk; benches = lab.benches ++ (bench ∷ []) }
+with_made lab (Err f) bench = lab
 
 unfoldable pub Allows : Lab → Call → Outcome → Type 0
 Allows lab (opens asked bytes clock room) =

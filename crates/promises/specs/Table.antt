@@ -1,17 +1,15 @@
 -- "What is proved by table": twelve facts, each with its inputs and what is expected, and one test of a fact over the definitions that the
 -- contracts name.
 -- Assumes nothing.
-use Rattle.std.specs.Prelude.{Bool, true, false, ◌&&◌, List, [], ◌∷◌, ℕ, eqb}
+use Rattle.std.specs.Prelude.{Bool, true, false, ◌&&◌, List, [], ◌∷◌, ℕ, eqb, Ok, Err}
 use Rattle.ticket.specs.Ticket.{new_ticket}
 use Rattle.frame.specs.Frame.{framed}
 use Rattle.remainder.specs.Remainder.{remainder_of}
 use Rattle.telegram.specs.Read.{read_frame, fault_number}
-use Rattle.telegram.specs.declared.Reading.{Reading}
-use Rattle.telegram.specs.declared.Reading.TheVariants.{Telegram, Refused}
+use Rattle.telegram.specs.Answers.{Reading}
 use Rattle.ticket.specs.Due.{is_due}
 use Rattle.values.specs.Values.{read_value, toggle_bits}
-use Rattle.values.specs.declared.Reading.{Reading as ValueReading}
-use Rattle.values.specs.declared.Reading.TheVariants as given
+use Rattle.values.specs.Answers.{Reading as ValueReading}
 use Rattle.values.specs.declared.Value.{Value}
 use Rattle.values.specs.declared.Value.TheVariants.{Natural, Negative}
 
@@ -39,8 +37,8 @@ same_bytes (x ∷ xs) [] = false
 same_bytes (x ∷ xs) (y ∷ ys) = eqb x y && same_bytes xs ys
 
 abbrev pub refused_with : Reading → ℕ → Bool
-refused_with (Refused f) number = eqb (fault_number f) number
-refused_with (Telegram t) number = false
+refused_with (Err f) number = eqb (fault_number f) number
+refused_with (Ok t) number = false
 
 abbrev pub same_value : Value → Value → Bool
 same_value (Natural m) (Natural n) = eqb m n
@@ -49,8 +47,8 @@ same_value (Negative m) (Natural n) = false
 same_value (Negative m) (Negative n) = eqb m n
 
 abbrev pub is_value : ValueReading → Value → Bool
-is_value (given.Refused f) value = false
-is_value (given.Is found) value = same_value found value
+is_value (Err f) value = false
+is_value (Ok found) value = same_value found value
 
 abbrev pub same_bool : Bool → Bool → Bool
 same_bool true b = b

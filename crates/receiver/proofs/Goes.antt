@@ -1,5 +1,6 @@
 -- How far a step goes.
 -- Assumes nothing.
+use Rattle.std.specs.Prelude.{Ok, Err, Some, None}
 use mathlib.Core.Path.{◌≡◌, refl, sym, ap, ◌∙◌}
 use mathlib.Core.Bool.{Bool, true, false, cond}
 use mathlib.Core.List.{List, [], ◌∷◌}
@@ -11,8 +12,7 @@ use lib.Dec.{eqb}
 use lib.ListN.{length}
 use Rattle.lines.specs.declared.Placed.{Placed}
 use Rattle.receiver.specs.declared.Receiver.{Receiver}
-use Rattle.receiver.specs.declared.Answer.{Answer}
-use Rattle.receiver.specs.declared.Answer.TheVariants.{Nothing, Line, Refused}
+use Rattle.receiver.specs.Answers.{Answer}
 use Rattle.receiver.specs.declared.Stepped.{Stepped}
 use Rattle.receiver.specs.Receiver.{outside_at, opened_at, is_inside, passed, grown, next, told, stepped, one_more, end_or, step_from}
 use Rattle.receiver.specs.Chunks.{line_in}
@@ -28,16 +28,16 @@ next_place r b = go (eqb b 13) (is_inside r) (eqb b 10)
     go false false u = refl
 
 -- where a byte ends no line the step goes on
-pub on_or_end : (a : Answer) (r : Receiver) (later : Stepped) → ((line_in a ≡ []) × (end_or a r later ≡ one_more later)) ⊎ ((e : Placed) × (a ≡ Line e))
-on_or_end (Line e) r later = inr (e, refl)
-on_or_end Nothing r later = inl (refl, refl)
-on_or_end (Refused f) r later = inl (refl, refl)
+pub on_or_end : (a : Answer) (r : Receiver) (later : Stepped) → ((line_in a ≡ []) × (end_or a r later ≡ one_more later)) ⊎ ((e : Placed) × (a ≡ Ok (Some e)))
+on_or_end (Ok (Some e)) r later = inr (e, refl)
+on_or_end (Ok None) r later = inl (refl, refl)
+on_or_end (Err f) r later = inl (refl, refl)
 
 pub step_cons : (r : Receiver) (b : ℕ) (rest : List ℕ) → step_from r (b ∷ rest) ≡ end_or (told r b) (next r b) (step_from (next r b) rest)
 unfolding step_from
 step_cons r b rest = refl
 
-pub step-none : (r : Receiver) → step_from r [] ≡ stepped r 0 Nothing
+pub step-none : (r : Receiver) → step_from r [] ≡ stepped r 0 (Ok None)
 unfolding step_from
 step-none r = refl
 

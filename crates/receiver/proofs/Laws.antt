@@ -1,5 +1,6 @@
 -- What is promised of the receiver: the laws that callers may cite.
 -- Assumes nothing.
+use Rattle.std.specs.Prelude.{Ok, Err, Some, None}
 use mathlib.Core.Path.{◌≡◌, refl, sym, ap, ◌∙◌}
 use mathlib.Core.Bool.{Bool, true, false, cond, ◌&&◌}
 use mathlib.Core.List.{List, [], ◌∷◌}
@@ -19,7 +20,6 @@ use Rattle.listing.specs.Events.{to_next_end}
 use Rattle.receiver.specs.declared.Receiver.{Receiver}
 use Rattle.receiver.specs.declared.Fault.{Fault}
 use Rattle.receiver.specs.declared.Fault.TheVariants.{PastLargest}
-use Rattle.receiver.specs.declared.Answer.TheVariants.{Nothing, Line, Refused}
 use Rattle.receiver.specs.declared.Stepped.{Stepped}
 use Rattle.receiver.specs.Receiver.{largest, no_bytes, passed, next, told, stepped, step_from, CarriesPast, step_rows, step_tests, step_refusal, step_answer, step_of, step_told, fault_number}
 use Rattle.receiver.specs.Receiver.{Numbers, Tests, Starts, Steps}
@@ -59,12 +59,12 @@ pub tests_right : (r : Receiver) (chunk : List ℕ) {b : Bool} → Tests r.place
 tests_right r chunk t = rw t (decides_past r chunk)
 
 -- "none of it is taken"
-pub refused_untouched : (r : Receiver) (chunk : List ℕ) → CarriesPast r chunk → step_of r chunk ≡ stepped r 0 (Refused PastLargest)
+pub refused_untouched : (r : Receiver) (chunk : List ℕ) → CarriesPast r chunk → step_of r chunk ≡ stepped r 0 (Err PastLargest)
 unfolding CarriesPast step_of step_refusal
 refused_untouched r chunk past = rw (lt-ltb largest (r.place + length chunk) past) refl
 
 -- a step that is refused leaves the receiver as it was
-pub step_refusal_keeps : (r : Receiver) (chunk : List ℕ) (s : Stepped) (f : Fault) → Steps r chunk s → s.answer ≡ Refused f → (s.receiver ≡ r) × (s.taken ≡ 0)
+pub step_refusal_keeps : (r : Receiver) (chunk : List ℕ) (s : Stepped) (f : Fault) → Steps r chunk s → s.answer ≡ Err f → (s.receiver ≡ r) × (s.taken ≡ 0)
 unfolding step_of
 step_refusal_keeps r chunk s f steps refused = by (step_refusal r chunk) steps
   where
@@ -87,7 +87,7 @@ step_forward r chunk s steps told = by (step_refusal r chunk) steps
 
 -- ---- how far a step goes
 
-from_all : (r : Receiver) (chunk : List ℕ) → (step_from r chunk).answer ≡ Nothing → (step_from r chunk).taken ≡ length chunk
+from_all : (r : Receiver) (chunk : List ℕ) → (step_from r chunk).answer ≡ Ok None → (step_from r chunk).taken ≡ length chunk
 from_all r [] e = rw (step-none r) refl
 from_all r (b ∷ rest) e =
     rw (step_cons r b rest)
@@ -96,10 +96,10 @@ from_all r (b ∷ rest) e =
     (let same : (step_from (next r b) rest).answer ≡ (step_from r (b ∷ rest)).answer = sym (ap (λ (s : Stepped). s.answer) (step_cons r b rest ∙ p.1)) in
     let ih : (step_from (next r b) rest).taken ≡ length rest = from_all (next r b) rest (same ∙ e) in
     omega arith))
-    (λ p. let line : (step_from r (b ∷ rest)).answer ≡ Line p.0 = rw (step_cons r b rest) (rw p.1 refl) in clash (cc))
+    (λ p. let line : (step_from r (b ∷ rest)).answer ≡ Ok (Some p.0) = rw (step_cons r b rest) (rw p.1 refl) in clash (cc))
     (on_or_end (told r b) (next r b) (step_from (next r b) rest)))
 
-from_first : (r : Receiver) (chunk : List ℕ) (n : ℕ) → n < (step_from r chunk).taken → (step_from r (take n chunk)).answer ≡ Nothing
+from_first : (r : Receiver) (chunk : List ℕ) (n : ℕ) → n < (step_from r chunk).taken → (step_from r (take n chunk)).answer ≡ Ok None
 from_first r [] n h = absurd (not-suc-le-zero (rw (step-none r) at h))
 from_first r (b ∷ rest) zero h = rw (step-none r) refl
 from_first r (b ∷ rest) (suc n) h =
@@ -113,26 +113,26 @@ from_first r (b ∷ rest) (suc n) h =
     (on_or_end (told r b) (next r b) (step_from (next r b) rest)))
 
 -- a step without a line took all of the chunk
-pub step_all : (r : Receiver) (chunk : List ℕ) {s : Stepped} → Steps r chunk s → s.answer ≡ Nothing → s.taken ≡ length chunk
+pub step_all : (r : Receiver) (chunk : List ℕ) {s : Stepped} → Steps r chunk s → s.answer ≡ Ok None → s.taken ≡ length chunk
 unfolding step_of
 step_all r chunk {s} steps none_told = by (step_refusal r chunk) steps
   where
     by : (o : Option Fault) → s ≡ step_answer o r (step_from r chunk) → s.taken ≡ length chunk
-    by (some f) e = let a : s.answer ≡ Refused f = ap (λ (s : Stepped). s.answer) e in clash (cc)
+    by (some f) e = let a : s.answer ≡ Err f = ap (λ (s : Stepped). s.answer) e in clash (cc)
     by none e = ap (λ (s : Stepped). s.taken) e ∙ from_all r chunk (sym (ap (λ (s : Stepped). s.answer) e) ∙ none_told)
 
 -- a step ends with the first byte that ends a line: no shorter piece of the chunk ends one
-pub step_first : (r : Receiver) (chunk : List ℕ) {s : Stepped} → Steps r chunk s → (n : ℕ) → n < s.taken → (step_from r (take n chunk)).answer ≡ Nothing
+pub step_first : (r : Receiver) (chunk : List ℕ) {s : Stepped} → Steps r chunk s → (n : ℕ) → n < s.taken → (step_from r (take n chunk)).answer ≡ Ok None
 unfolding step_of
 step_first r chunk {s} steps n h = by (step_refusal r chunk) steps
   where
-    by : (o : Option Fault) → s ≡ step_answer o r (step_from r chunk) → (step_from r (take n chunk)).answer ≡ Nothing
+    by : (o : Option Fault) → s ≡ step_answer o r (step_from r chunk) → (step_from r (take n chunk)).answer ≡ Ok None
     by (some f) e = let a : s.taken ≡ 0 = ap (λ (s : Stepped). s.taken) e in absurd (omega arith)
     by none e = from_first r chunk n (rw (ap (λ (s : Stepped). s.taken) e) at h)
 
 -- ---- 01: "Bytes outside a frame are passed over."
 
-pub passed_over : (r : Receiver) (b : ℕ) → r.size ≡ 0 → (b ≡ 13 → ⊥) → (told r b ≡ Nothing) × (next r b ≡ passed r)
+pub passed_over : (r : Receiver) (b : ℕ) → r.size ≡ 0 → (b ≡ 13 → ⊥) → (told r b ≡ Ok None) × (next r b ≡ passed r)
 passed_over r b out n = (told_outside r b out, next_outside r b out n)
 
 -- ---- no more than 494 bytes of a frame are kept, whatever came

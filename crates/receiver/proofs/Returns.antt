@@ -1,5 +1,6 @@
 -- What the functions return, by their tests.
 -- Assumes nothing.
+use Rattle.std.specs.Prelude.{Err}
 use mathlib.Core.Path.{◌≡◌, refl, sym, ap₂, ◌∙◌}
 use mathlib.Core.Bool.{Bool, true, false}
 use mathlib.Core.List.{List, [], ◌∷◌}
@@ -17,7 +18,6 @@ use Rattle.listing.specs.Events.{frame_event, to_next_end}
 use Rattle.receiver.specs.declared.Receiver.{Receiver}
 use Rattle.receiver.specs.declared.Stepped.{Stepped}
 use Rattle.receiver.specs.declared.Fault.TheVariants.{PastLargest}
-use Rattle.receiver.specs.declared.Answer.TheVariants as answer
 use Rattle.receiver.specs.Receiver.{largest, no_bytes, is_past, stepped, step_from, step_refusal, step_of}
 use Rattle.receiver.specs.Parts.{Fits, size_by, grown_by, closed_by}
 
@@ -71,7 +71,7 @@ rest_fits place at n chunk fits under =
 -- ---- a step, by 60's test
 
 module _ (r : Receiver) (chunk : List ℕ) where
-  pub step_refused : is_past r.place chunk ≡ true → stepped r 0 (answer.Refused PastLargest) ≡ step_of r chunk
+  pub step_refused : is_past r.place chunk ≡ true → stepped r 0 (Err PastLargest) ≡ step_of r chunk
   unfolding step_of step_refusal
   step_refused e = rw e refl
 

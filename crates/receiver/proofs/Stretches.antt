@@ -1,5 +1,6 @@
 -- A step over a chunk, a stretch of bytes at once: what the code goes by.
 -- Assumes nothing.
+use Rattle.std.specs.Prelude.{Ok, Some, None}
 use mathlib.Core.Path.{◌≡◌, refl, sym, ap, ap₂, ◌∙◌}
 use mathlib.Core.Bool.{true, false}
 use mathlib.Core.List.{List, [], ◌∷◌, ◌++◌}
@@ -18,7 +19,6 @@ use Rattle.listing.specs.Events.{placed, frame_event, is_end, to_next, to_next_e
 use Rattle.listing.proofs.Numbers.{decides_end, ends_there}
 use Rattle.listing.proofs.Next.{next-none, before_next, next_there}
 use Rattle.receiver.specs.declared.Receiver.{Receiver}
-use Rattle.receiver.specs.declared.Answer.TheVariants.{Nothing, Line}
 use Rattle.receiver.specs.declared.Stepped.{Stepped}
 use Rattle.receiver.specs.Receiver.{outside_at, opened_at, is_inside, passed, grown, next, closing, told, stepped, one_more, step_from}
 use Rattle.receiver.specs.Parts.{Held, is_start, passed_by, grown_by, closed_by}
@@ -36,7 +36,7 @@ module _ (r : Receiver) (b : ℕ) where
     not_inside : is_inside r ≡ false
     not_inside = le-ltb 0 r.size (omega arith)
 
-    pub told_outside : told r b ≡ Nothing
+    pub told_outside : told r b ≡ Ok None
     unfolding told
     told_outside = rw not_inside refl
 
@@ -49,11 +49,11 @@ module _ (r : Receiver) (b : ℕ) where
     is_inside_lem : is_inside r ≡ true
     is_inside_lem = lt-ltb 0 r.size open-here
 
-    pub told_dropped : b ≡ 13 → told r b ≡ Line (placed r.start Dropped)
+    pub told_dropped : b ≡ 13 → told r b ≡ Ok (Some (placed r.start Dropped))
     unfolding told
     told_dropped e = rw (is_inside_lem, eq-eqb b 13 e) refl
 
-    pub told_closed : b ≡ 10 → told r b ≡ Line (placed r.start (closing r))
+    pub told_closed : b ≡ 10 → told r b ≡ Ok (Some (placed r.start (closing r)))
     unfolding told
     told_closed e = rw (is_inside_lem, e) refl
 
@@ -61,7 +61,7 @@ module _ (r : Receiver) (b : ℕ) where
     unfolding next
     next_closed e = rw (is_inside_lem, e) refl
 
-    pub told_grown : (b ≡ 13 → ⊥) → (b ≡ 10 → ⊥) → told r b ≡ Nothing
+    pub told_grown : (b ≡ 13 → ⊥) → (b ≡ 10 → ⊥) → told r b ≡ Ok None
     unfolding told
     told_grown n m = rw (is_inside_lem, ne_eqb b 13 n, ne_eqb b 10 m) refl
 
@@ -86,16 +86,16 @@ more_one n s = ap (λ (n : ℕ). stepped s.receiver n s.answer) (same s.taken)
     same : (t : ℕ) → t + n + 1 ≡ t + suc n
     same t = omega arith
 
-quiet : (r : Receiver) (b : ℕ) (rest : List ℕ) (r' : Receiver) → told r b ≡ Nothing → next r b ≡ r' → step_from r (b ∷ rest) ≡ one_more (step_from r' rest)
+quiet : (r : Receiver) (b : ℕ) (rest : List ℕ) (r' : Receiver) → told r b ≡ Ok None → next r b ≡ r' → step_from r (b ∷ rest) ≡ one_more (step_from r' rest)
 unfolding step_from
 quiet r b rest r' t n = rw (t, n) refl
 
-ends : (r : Receiver) (b : ℕ) (rest : List ℕ) (r' : Receiver) {p : ℕ} {e : Event} → told r b ≡ Line (placed p e) → next r b ≡ r'
-    → step_from r (b ∷ rest) ≡ stepped r' 1 (Line (placed p e))
+ends : (r : Receiver) (b : ℕ) (rest : List ℕ) (r' : Receiver) {p : ℕ} {e : Event} → told r b ≡ Ok (Some (placed p e)) → next r b ≡ r'
+    → step_from r (b ∷ rest) ≡ stepped r' 1 (Ok (Some (placed p e)))
 unfolding step_from
 ends r b rest r' t n = rw (t, n) refl
 
-nothing_left : (r : Receiver) → step_from r [] ≡ stepped r 0 Nothing
+nothing_left : (r : Receiver) → step_from r [] ≡ stepped r 0 (Ok None)
 unfolding step_from
 nothing_left r = refl
 
@@ -148,7 +148,7 @@ start_there : (chunk : List ℕ) (k : ℕ) → k ≡ to_next is_start chunk → 
 start_there chunk k is under = rw is (eqb-true (get_or chunk (to_next is_start chunk) 0) 13 (next_there is_start chunk (rw (← is) under)))
 
 module _ (r : Receiver) (chunk : List ℕ) (held : Held r) (inside : 0 < r.size) where
-  pub stays_open : length chunk ≤ to_next_end chunk → step_from r chunk ≡ stepped (grown_by r chunk) (length chunk) Nothing
+  pub stays_open : length chunk ≤ to_next_end chunk → step_from r chunk ≡ stepped (grown_by r chunk) (length chunk) (Ok None)
   unfolding more_by
   stays_open h =
       grow_on (length chunk) r chunk held inside h
@@ -164,24 +164,24 @@ module _ (r : Receiver) (chunk : List ℕ) (held : Held r) (inside : 0 < r.size)
     still : 0 < (grown_by r (take k chunk)).size
     still = size_positive r.size (length (take k chunk)) inside
 
-    pub is_dropped_lem : get_or chunk k 0 ≡ 13 → step_from r chunk ≡ stepped (opened_at (r.place + k)) (k + 1) (Line (placed r.start Dropped))
+    pub is_dropped_lem : get_or chunk k 0 ≡ 13 → step_from r chunk ≡ stepped (opened_at (r.place + k)) (k + 1) (Ok (Some (placed r.start Dropped)))
     unfolding more_by
     is_dropped_lem e =
         to_end
         ∙ ap (more_by k)
         (ends (grown_by r (take k chunk)) (get_or chunk k 0) (drop (k + 1) chunk) (opened_at (r.place + length (take k chunk)))
         (told_dropped (grown_by r (take k chunk)) (get_or chunk k 0) still e) (at_start (grown_by r (take k chunk)) (get_or chunk k 0) e))
-        ∙ rw long (ap (λ (n : ℕ). stepped (opened_at (r.place + k)) n (Line (placed r.start Dropped))) (one_then k))
+        ∙ rw long (ap (λ (n : ℕ). stepped (opened_at (r.place + k)) n (Ok (Some (placed r.start Dropped)))) (one_then k))
 
-    pub is_closed : (get_or chunk k 0 ≡ 13 → ⊥) → step_from r chunk ≡ stepped (outside_at (r.place + k + 1)) (k + 1) (Line (placed r.start (closed_by r (take (k + 1) chunk))))
+    pub is_closed : (get_or chunk k 0 ≡ 13 → ⊥) → step_from r chunk ≡ stepped (outside_at (r.place + k + 1)) (k + 1) (Ok (Some (placed r.start (closed_by r (take (k + 1) chunk)))))
     unfolding more_by
     is_closed n =
         to_end
         ∙ ap (more_by k)
         (ends (grown_by r (take k chunk)) (get_or chunk k 0) (drop (k + 1) chunk) (outside_at (r.place + length (take k chunk) + 1))
         (told_closed (grown_by r (take k chunk)) (get_or chunk k 0) still ten) (next_closed (grown_by r (take k chunk)) (get_or chunk k 0) still ten))
-        ∙ ap₂ (λ (p n : ℕ). stepped (outside_at (p + 1)) n (Line (placed r.start (closing (grown_by r (take k chunk)))))) (ap (λ (n : ℕ). r.place + n) long) (one_then k)
-        ∙ ap (λ (e : Event). stepped (outside_at (r.place + k + 1)) (k + 1) (Line (placed r.start e)))
+        ∙ ap₂ (λ (p n : ℕ). stepped (outside_at (p + 1)) n (Ok (Some (placed r.start (closing (grown_by r (take k chunk))))))) (ap (λ (n : ℕ). r.place + n) long) (one_then k)
+        ∙ ap (λ (e : Event). stepped (outside_at (r.place + k + 1)) (k + 1) (Ok (Some (placed r.start e))))
         (closing_grown r (take k chunk) held ∙ ap (closed_by r) (sym with_last_lem))
       where
         ten : get_or chunk k 0 ≡ 10
@@ -193,7 +193,7 @@ module _ (r : Receiver) (chunk : List ℕ) (held : Held r) (inside : 0 < r.size)
 -- ---- outside a frame: to the chunk's end, or to a 13
 
 module _ (r : Receiver) (chunk : List ℕ) (out : r.size ≡ 0) (at : ℕ) (is : at ≡ to_next is_start chunk) where
-  pub passes_all : length chunk ≤ at → at ≤ length chunk → step_from r chunk ≡ stepped (passed_by r at) at Nothing
+  pub passes_all : length chunk ≤ at → at ≤ length chunk → step_from r chunk ≡ stepped (passed_by r at) at (Ok None)
   unfolding more_by
   passes_all h g =
       pass_on at r chunk out (omega arith)
@@ -217,12 +217,12 @@ module _ (r : Receiver) (chunk : List ℕ) (out : r.size ≡ 0) (at : ℕ) (is :
     module _ (end : ℕ) (found : end ≡ at + 1 + to_next_end (drop (at + 1) chunk)) where
       -- a frame that is open at the chunk's end
       pub opens_frame : length chunk ≤ end → end ≤ length chunk
-          → step_from r chunk ≡ stepped (grown_by (opened_at (r.place + at)) (take (end - (at + 1)) (drop (at + 1) chunk))) end Nothing
+          → step_from r chunk ≡ stepped (grown_by (opened_at (r.place + at)) (take (end - (at + 1)) (drop (at + 1) chunk))) end (Ok None)
       unfolding more_by
       opens_frame h g =
           opens
           ∙ ap (more_by (at + 1)) (stays_open (opened_at (r.place + at)) (drop (at + 1) chunk) (opened_held (r.place + at)) (omega arith) (rw left_is (omega arith)))
-          ∙ ap₂ (λ (l : List ℕ) (n : ℕ). stepped (grown_by (opened_at (r.place + at)) l) n Nothing) (sym all_taken) ends_at
+          ∙ ap₂ (λ (l : List ℕ) (n : ℕ). stepped (grown_by (opened_at (r.place + at)) l) n (Ok None)) (sym all_taken) ends_at
         where
           left_is : length (drop (at + 1) chunk) ≡ length chunk - (at + 1)
           left_is = length-drop (at + 1) chunk
@@ -250,13 +250,13 @@ module _ (r : Receiver) (chunk : List ℕ) (out : r.size ≡ 0) (at : ℕ) (is :
         place_is : r.place + at + 1 + (end - (at + 1)) ≡ r.place + end
         place_is = omega arith
 
-        pub drops_frame : get_or chunk end 0 ≡ 13 → step_from r chunk ≡ stepped (opened_at (r.place + end)) (end + 1) (Line (placed (r.place + at) Dropped))
+        pub drops_frame : get_or chunk end 0 ≡ 13 → step_from r chunk ≡ stepped (opened_at (r.place + end)) (end + 1) (Ok (Some (placed (r.place + at) Dropped)))
         unfolding more_by
         drops_frame e =
             opens
             ∙ ap (more_by (at + 1))
             (is_dropped_lem (opened_at (r.place + at)) (drop (at + 1) chunk) (opened_held (r.place + at)) (omega arith) (end - (at + 1)) next_is there (last_is ∙ e))
-            ∙ ap₂ (λ (p n : ℕ). stepped (opened_at p) n (Line (placed (r.place + at) Dropped))) place_is taken_is
+            ∙ ap₂ (λ (p n : ℕ). stepped (opened_at p) n (Ok (Some (placed (r.place + at) Dropped)))) place_is taken_is
 
         frame_is : 13 ∷ take (end - (at + 1) + 1) (drop (at + 1) chunk) ≡ take (end + 1 - at) (drop at chunk)
         frame_is = rw (drop-next chunk at under, start_there chunk at is under, long_is) refl
@@ -265,13 +265,13 @@ module _ (r : Receiver) (chunk : List ℕ) (out : r.size ≡ 0) (at : ℕ) (is :
             long_is = omega arith
 
         pub reads_frame : (get_or chunk end 0 ≡ 13 → ⊥)
-            → step_from r chunk ≡ stepped (outside_at (r.place + end + 1)) (end + 1) (Line (placed (r.place + at) (frame_event (take (end + 1 - at) (drop at chunk)))))
+            → step_from r chunk ≡ stepped (outside_at (r.place + end + 1)) (end + 1) (Ok (Some (placed (r.place + at) (frame_event (take (end + 1 - at) (drop at chunk))))))
         unfolding more_by
         reads_frame n =
             opens
             ∙ ap (more_by (at + 1))
             (is_closed (opened_at (r.place + at)) (drop (at + 1) chunk) (opened_held (r.place + at)) (omega arith) (end - (at + 1)) next_is there (λ e. n (sym last_is ∙ e)))
-            ∙ ap₂ (λ (p n : ℕ). stepped (outside_at (p + 1)) n (Line (placed (r.place + at) (closed_by (opened_at (r.place + at)) (take (end - (at + 1) + 1) (drop (at + 1) chunk))))))
+            ∙ ap₂ (λ (p n : ℕ). stepped (outside_at (p + 1)) n (Ok (Some (placed (r.place + at) (closed_by (opened_at (r.place + at)) (take (end - (at + 1) + 1) (drop (at + 1) chunk)))))))
             place_is taken_is
-            ∙ ap (λ (e : Event). stepped (outside_at (r.place + end + 1)) (end + 1) (Line (placed (r.place + at) e)))
+            ∙ ap (λ (e : Event). stepped (outside_at (r.place + end + 1)) (end + 1) (Ok (Some (placed (r.place + at) e))))
             (closed_opened (r.place + at) (take (end - (at + 1) + 1) (drop (at + 1) chunk)) ∙ ap frame_event frame_is)

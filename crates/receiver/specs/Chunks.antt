@@ -1,22 +1,21 @@
 -- Chunks one after the other, and what they come to: one reading of all bytes joined.
 -- Assumes nothing.
-use Rattle.std.specs.Prelude.{◌≡◌, cond, ◌&&◌, List, [], ◌∷◌, ◌++◌, ℕ, zero, suc, ◌+◌, min, eqb, leb, length, drop}
+use Rattle.std.specs.Prelude.{◌≡◌, cond, ◌&&◌, List, [], ◌∷◌, ◌++◌, ℕ, zero, suc, ◌+◌, min, eqb, leb, length, drop, Ok, Err, Some, None}
 use Rattle.lent.specs.Lent.{over_at}
 use Rattle.lines.specs.declared.Event.TheVariants.{Open}
 use Rattle.lines.specs.declared.Placed.{Placed}
 use Rattle.listing.specs.Events.{placed, to_next_end, events_from}
 use Rattle.receiver.specs.declared.Receiver.{Receiver}
-use Rattle.receiver.specs.declared.Answer.{Answer}
-use Rattle.receiver.specs.declared.Answer.TheVariants.{Nothing, Line, Refused}
+use Rattle.receiver.specs.Answers.{Answer}
 use Rattle.receiver.specs.Receiver.{no_bytes, outside_at, is_inside, step_of}
 
 -- ---- by steps
 
 -- the line of an answer, where it has one
 abbrev pub line_in : Answer → List Placed
-line_in (Line e) = e ∷ []
-line_in Nothing = []
-line_in (Refused f) = []
+line_in (Ok (Some e)) = e ∷ []
+line_in (Ok None) = []
+line_in (Err f) = []
 
 -- what came of some steps: the receiver behind them, their lines in order, and the bytes that none of them took
 pub record Run : Type 0 where

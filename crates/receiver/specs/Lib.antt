@@ -1,3 +1,4 @@
+pub mod Answers
 pub mod Receiver
 pub mod Parts
 pub mod Chunks

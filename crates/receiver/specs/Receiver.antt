@@ -1,7 +1,7 @@
 -- The receiver, 02's #101: "however the bytes were cut, gives the same lines in order and the same open frame at the end as one reading of all
 -- bytes joined". What it does with one byte, and a step over a chunk as so many bytes one after the other.
 -- Assumes nothing.
-use Rattle.std.specs.Prelude.{◌≡◌, Bool, cond, List, [], ◌∷◌, ◌++◌, ℕ, ◌+◌, ◌<◌, eqb, leb, ltb, length, take, replicate}
+use Rattle.std.specs.Prelude.{◌≡◌, Bool, cond, List, [], ◌∷◌, ◌++◌, ℕ, ◌+◌, ◌<◌, eqb, leb, ltb, length, take, replicate, Ok, Err, Some, None}
 use Rattle.std.proofs.Math.Option.{Option, some, none}
 use Rattle.rows.specs.Rows.{Row, row, Test, test, first_row_of}
 use Rattle.lent.specs.Lent.{over_at}
@@ -12,8 +12,7 @@ use Rattle.listing.specs.Events.{placed, frame_event}
 use Rattle.receiver.specs.declared.Receiver.{Receiver}
 use Rattle.receiver.specs.declared.Fault.{Fault}
 use Rattle.receiver.specs.declared.Fault.TheVariants.{PastLargest}
-use Rattle.receiver.specs.declared.Answer.{Answer}
-use Rattle.receiver.specs.declared.Answer.TheVariants.{Nothing, Line, Refused}
+use Rattle.receiver.specs.Answers.{Answer}
 use Rattle.receiver.specs.declared.Stepped.{Stepped}
 
 -- ---- the state
@@ -68,9 +67,9 @@ closing r = cond (ran_away r) (event.Refused LongMessage) (frame_event (kept r +
 unfoldable pub told : Receiver → ℕ → Answer
 told r b =
     cond (is_inside r)
-    (cond (eqb b 13) (Line (placed r.start event.Dropped))
-    (cond (eqb b 10) (Line (placed r.start (closing r))) Nothing))
-    Nothing
+    (cond (eqb b 13) (Ok (Some (placed r.start event.Dropped)))
+    (cond (eqb b 10) (Ok (Some (placed r.start (closing r)))) (Ok None)))
+    (Ok None)
 
 -- ---- a step: up to and including the byte that ends the next line, or all of the chunk where none does
 
@@ -83,12 +82,12 @@ one_more s = stepped s.receiver (s.taken + 1) s.answer
 
 -- where the byte ends a line the step ends, else it goes on
 abbrev pub end_or : Answer → Receiver → Stepped → Stepped
-end_or (Line e) r later = stepped r 1 (Line e)
-end_or Nothing r later = one_more later
-end_or (Refused f) r later = one_more later
+end_or (Ok (Some e)) r later = stepped r 1 (Ok (Some e))
+end_or (Ok None) r later = one_more later
+end_or (Err f) r later = one_more later
 
 unfoldable pub step_from : Receiver → List ℕ → Stepped
-step_from r [] = stepped r 0 Nothing
+step_from r [] = stepped r 0 (Ok None)
 step_from r (b ∷ rest) = end_or (told r b) (next r b) (step_from (next r b) rest)
 
 -- ---- the row
@@ -119,7 +118,7 @@ step_refusal r chunk = first_row_of (step_tests r chunk)
 
 -- "none of it is taken"
 abbrev pub step_answer : Option Fault → Receiver → Stepped → Stepped
-step_answer (some f) r s = stepped r 0 (Refused f)
+step_answer (some f) r s = stepped r 0 (Err f)
 step_answer none r s = s
 
 unfoldable pub step_of : Receiver → List ℕ → Stepped
@@ -127,9 +126,9 @@ step_of r chunk = step_answer (step_refusal r chunk) r (step_from r chunk)
 
 -- the number that a step tells, or none
 abbrev pub step_told : Answer → Option ℕ
-step_told (Refused f) = some (fault_number f)
-step_told (Line e) = none
-step_told Nothing = none
+step_told (Err f) = some (fault_number f)
+step_told (Ok (Some e)) = none
+step_told (Ok None) = none
 
 -- ---- the contracts
 

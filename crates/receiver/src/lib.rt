@@ -34,16 +34,9 @@ pub enum Fault {
     PastLargest,
 }
 
-// What a step answers.
-#[derive(Clone, Copy)]
-pub enum Answer {
-    // no line ends in the chunk
-    Nothing,
-    // the last byte taken ends this line
-    Line(Placed),
-    // none of the chunk was taken
-    Refused(Fault),
-}
+// What a step answers: the line that the last byte taken ends, or `None` where no line ends in the
+// chunk. None of a chunk that is refused was taken.
+pub type Answer = Result<Option<Placed>, Fault>;
 
 // A step's outcome: the receiver afterwards, and how many bytes of the chunk it took.
 #[derive(Clone, Copy)]

@@ -1,9 +1,8 @@
 // The receiver, step by step.
 ghost use Rattle.receiver.specs.Receiver.{Tests, Starts, Steps, step_from, opened_at, stepped};
 ghost use Rattle.receiver.specs.Parts.{Fits, Held, passed_by, size_by, grown_by, closed_by};
-ghost use Rattle.receiver.specs.declared.Answer.TheVariants.{Line};
 ghost use Rattle.listing.specs.Events.{placed, read_event, frame_event};
-ghost use Rattle.std.specs.Prelude.{◌≡◌, ◌<◌, ◌≤◌, ◌+◌};
+ghost use Rattle.std.specs.Prelude.{◌≡◌, ◌<◌, ◌≤◌, ◌+◌, Ok, Some};
 
 use crate::seek::{next_end, next_start};
 use crate::{Answer, Fault, MOST_KEPT, Receiver, Stepped};
@@ -36,7 +35,7 @@ pub fn step(receiver: Receiver, chunk: &[u8]) -> Stepped
         return Stepped {
             receiver,
             taken: 0,
-            answer: Answer::Refused(Fault::PastLargest),
+            answer: Err(Fault::PastLargest),
         };
     }
     advance(receiver, chunk)
@@ -71,7 +70,7 @@ fn outside(receiver: Receiver, chunk: &[u8]) -> Stepped
         return Stepped {
             receiver: passed(receiver, at),
             taken: at,
-            answer: Answer::Nothing,
+            answer: Ok(None),
         };
     }
     let start = receiver.place + at as u64;
@@ -80,7 +79,7 @@ fn outside(receiver: Receiver, chunk: &[u8]) -> Stepped
         return Stepped {
             receiver: grown(opened(start), &chunk[at + 1..end]),
             taken: end,
-            answer: Answer::Nothing,
+            answer: Ok(None),
         };
     }
     let here = receiver.place + end as u64;
@@ -100,7 +99,7 @@ fn inside(receiver: Receiver, chunk: &[u8]) -> Stepped
         return Stepped {
             receiver: grown(receiver, chunk),
             taken: end,
-            answer: Answer::Nothing,
+            answer: Ok(None),
         };
     }
     let here = receiver.place + end as u64;
@@ -113,12 +112,12 @@ fn inside(receiver: Receiver, chunk: &[u8]) -> Stepped
 
 // The last byte taken ended a line.
 fn ended(receiver: Receiver, taken: usize, place: u64, event: Event) -> Stepped
-    ensures { result ≡ stepped receiver taken (Line (placed place event)) }
+    ensures { result ≡ stepped receiver taken (Ok (Some (placed place event))) }
 {
     Stepped {
         receiver,
         taken,
-        answer: Answer::Line(Placed { place, event }),
+        answer: Ok(Some(Placed { place, event })),
     }
 }
 
@@ -205,11 +204,11 @@ fn read(frame: &[u8]) -> Event
     event_of(telegram::examine(frame, MOST_DATA))
 }
 
-fn event_of(reading: telegram::Reading) -> Event
+fn event_of(reading: Result<telegram::Fields, telegram::Fault>) -> Event
     ensures { result ≡ read_event reading }
 {
     match reading {
-        telegram::Reading::Telegram(t) => Event::Read(t),
-        telegram::Reading::Refused(fault) => Event::Refused(fault),
+        Ok(t) => Event::Read(t),
+        Err(fault) => Event::Refused(fault),
     }
 }

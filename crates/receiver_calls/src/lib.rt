@@ -211,7 +211,7 @@ fn step(fed: Fed, chunk: &[u8], out: &mut [u8]) -> Fed
 // The line behind a step.
 fn behind(before: Line, tally: Tally, receiver: Receiver, answer: Answer) -> Line {
     match answer {
-        Answer::Line(line) => {
+        Ok(Some(line)) => {
             let event = line.event;
             totalled(before, tally, receiver, event)
         }
@@ -245,7 +245,7 @@ fn totalled(before: Line, tally: Tally, receiver: Receiver, event: Event) -> Lin
 
 fn refusal_of(answer: Answer) -> u8 {
     match answer {
-        Answer::Refused(fault) => tally::number(fault),
+        Err(fault) => tally::number(fault),
         _ => 0,
     }
 }
@@ -253,7 +253,7 @@ fn refusal_of(answer: Answer) -> u8 {
 // A step's line, where it has one.
 fn told(answer: Answer, out: &mut [u8], at: usize) -> usize {
     match answer {
-        Answer::Line(line) => {
+        Ok(Some(line)) => {
             let event = line.event;
             let mut room = [0u8; ROOM];
             let size = lines::line(line.place, event, &mut room);

@@ -1,5 +1,6 @@
 -- What is promised of a request that is judged: the laws that callers may cite.
 -- Assumes nothing.
+use Rattle.std.specs.Prelude.{Ok, Err}
 use mathlib.Core.Path.{◌≡◌, refl, ap, ◌∙◌}
 use mathlib.Core.Bool.{Bool, false, cond, not}
 use mathlib.Core.List.{List, [], ◌∷◌}
@@ -18,8 +19,7 @@ use Rattle.request.specs.Request.{IsNoJob, IsNotAModule, IsNotARequest, IsWrongD
 use Rattle.request.specs.declared.Request.{Request}
 use Rattle.request.specs.declared.Fault.{Fault}
 use Rattle.request.specs.declared.Fault.TheVariants.{WrongWait}
-use Rattle.request.specs.declared.Asking.{Asking}
-use Rattle.request.specs.declared.Asking.TheVariants.{Allowed, Denied}
+use Rattle.request.specs.Answers.{Asking}
 
 -- ---- rows 10 to 14: "Each is given exactly when its condition holds and no earlier one does."
 
@@ -86,11 +86,11 @@ unfolding ask_refusal
 past_13 asked bytes job unit named sort asks size right = rw (ne_eqb asked.job 0 job, ← unit, named, ← sort, asks, ← size, right)
 
 -- what an answer tells of the refusal that it was made from
-pub asked_denied : (o : Option Fault) (f : Fault) → Denied f ≡ ask_answer o → o ≡ some f
+pub asked_denied : (o : Option Fault) (f : Fault) → Err f ≡ ask_answer o → o ≡ some f
 asked_denied none f e = cc
 asked_denied (some g) f e = cc
 
-pub asked_allowed : (o : Option Fault) → Allowed ≡ ask_answer o → o ≡ none
+pub asked_allowed : (o : Option Fault) → Ok tt ≡ ask_answer o → o ≡ none
 asked_allowed none e = refl
 asked_allowed (some g) e = cc
 

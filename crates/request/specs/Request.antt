@@ -1,13 +1,12 @@
 -- A request: rows 10 to 14, before any address is looked for.
 -- Assumes nothing.
-use Rattle.std.specs.Prelude.{◌≡◌, ◌⊎◌, Bool, not, ◌||◌, ◌&&◌, List, [], ◌∷◌, ℕ, ◌≤◌, ◌<◌, eqb, leb, ltb, length}
+use Rattle.std.specs.Prelude.{◌≡◌, ◌⊎◌, Bool, not, ◌||◌, ◌&&◌, List, [], ◌∷◌, ℕ, ◌≤◌, ◌<◌, eqb, leb, ltb, length, Ok, Err}
 use Rattle.std.proofs.Math.Option.{Option, some, none}
 use Rattle.rows.specs.Rows.{Row, row, Test, test, first_row_of}
 use Rattle.request.specs.declared.Request.{Request}
 use Rattle.request.specs.declared.Fault.{Fault}
 use Rattle.request.specs.declared.Fault.TheVariants.{NoJob, NotAModule, NotARequest, WrongData, WrongWait}
-use Rattle.request.specs.declared.Asking.{Asking}
-use Rattle.request.specs.declared.Asking.TheVariants.{Allowed, Denied}
+use Rattle.request.specs.Answers.{Asking}
 
 -- 10: "job number 0"
 unfoldable pub IsNoJob : Request → Type 0
@@ -71,14 +70,14 @@ fault_number WrongData = 13
 fault_number WrongWait = 14
 
 abbrev pub ask_told : Asking → Option ℕ
-ask_told (Denied f) = some (fault_number f)
-ask_told Allowed = none
+ask_told (Err f) = some (fault_number f)
+ask_told (Ok _) = none
 
 -- ---- the contracts
 
 abbrev pub ask_answer : Option Fault → Asking
-ask_answer (some f) = Denied f
-ask_answer none = Allowed
+ask_answer (some f) = Err f
+ask_answer none = Ok tt
 
 abbrev pub Asks : Request → List ℕ → Asking → Type 0
 Asks asked bytes r = r ≡ ask_answer (ask_refusal asked bytes)

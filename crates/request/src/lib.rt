@@ -30,12 +30,6 @@ pub enum Fault {
     WrongWait,
 }
 
-#[derive(Clone, Copy)]
-pub enum Asking {
-    Allowed,
-    Denied(Fault),
-}
-
 // The paper's number of a refusal.
 pub fn number(fault: Fault) -> u8
     ensures { Numbers fault result }
@@ -50,25 +44,25 @@ pub fn number(fault: Fault) -> u8
 }
 
 // Rows 10 to 14: what can be said of a request before any address is looked for.
-pub fn judge(asked: Request, data: &[u8]) -> Asking
+pub fn judge(asked: Request, data: &[u8]) -> Result<(), Fault>
     ensures { Asks asked «data».now result }
 {
     if asked.job == 0 {
-        return Asking::Denied(Fault::NoJob);
+        return Err(Fault::NoJob);
     }
     if !one_to(160, asked.unit as u32) {
-        return Asking::Denied(Fault::NotAModule);
+        return Err(Fault::NotAModule);
     }
     if !is_request(asked.sort) {
-        return Asking::Denied(Fault::NotARequest);
+        return Err(Fault::NotARequest);
     }
     if wrong_data(asked.sort, data.len()) {
-        return Asking::Denied(Fault::WrongData);
+        return Err(Fault::WrongData);
     }
     if !one_to(60000, asked.wait) {
-        return Asking::Denied(Fault::WrongWait);
+        return Err(Fault::WrongWait);
     }
-    Asking::Allowed
+    Ok(())
 }
 
 // Whether x is 1 to `most`.

@@ -1,5 +1,6 @@
 -- What each function of the scan needs of the definitions, over plain numbers.
 -- Assumes nothing.
+use Rattle.std.specs.Prelude.{Ok}
 use mathlib.Core.Path.{◌≡◌, refl, sym, ◌∙◌}
 use mathlib.Core.Bool.{Bool, true, false}
 use mathlib.Core.List.{List, []}
@@ -10,24 +11,22 @@ use borrow.Author.Tests.{le-leb, lt-leb, eq-eqb, ne_eqb}
 use lib.ListN.{get_or}
 use Rattle.desk.specs.Open.{Opens}
 use Rattle.desk.specs.declared.AfterOpen.{AfterOpen}
-use Rattle.desk.specs.declared.Booking.{Booking}
-use Rattle.desk.specs.declared.Booking.TheVariants.{Booked}
-use Rattle.desk.specs.declared.Closing.{Closing}
-use Rattle.desk.specs.declared.Closing.TheVariants.{Closed}
+use Rattle.desk.specs.Answers.{Booking, booking, closing}
+use Rattle.desk.specs.Answers.{Closing}
 use Rattle.desk.specs.declared.Desk.{Desk}
 use Rattle.scan.specs.Scan.{request, is_its_own, turn_over, answer_of, heard_reply, heard_closing, Stays, Passes, Steps, Looks}
 use Rattle.scan.specs.declared.AfterStep.{AfterStep}
 use Rattle.scan.specs.declared.Found.TheVariants.{NotYet, Absent, Present}
 use Rattle.scan.specs.declared.Scan.{Scan}
-use Rattle.scan.specs.declared.Stepping.TheVariants.{Waiting, Done}
+use Rattle.scan.specs.declared.Stage.TheVariants.{Waiting, Done}
 
 -- ---- a step
 
 module _ (scan : Scan) (desk : Desk) (clock : ℕ) (room : List ℕ) (r : AfterStep) where
-  pub step_done : 160 ≤ scan.turns → Stays scan desk Done r → Steps scan desk clock room r room
+  pub step_done : 160 ≤ scan.turns → Stays scan desk (Ok Done) r → Steps scan desk clock room r room
   step_done over stays = rw (le-leb 160 scan.turns over) (stays, refl)
 
-  pub step_waits : scan.turns < 160 → scan.out ≢ 0 → Stays scan desk (Waiting scan.out) r → Steps scan desk clock room r room
+  pub step_waits : scan.turns < 160 → scan.out ≢ 0 → Stays scan desk (Ok (Waiting scan.out)) r → Steps scan desk clock room r room
   step_waits left out stays = rw (lt-leb 160 scan.turns left, ne_eqb scan.out 0 out) (stays, refl)
 
   pub step_asks : (o : AfterOpen) (room' : List ℕ) → scan.turns < 160 → scan.out ≡ 0 → Opens desk (request scan) [] clock room o room' → Passes scan (scan.turns + 1) o r
@@ -37,17 +36,17 @@ module _ (scan : Scan) (desk : Desk) (clock : ℕ) (room : List ℕ) (r : AfterS
 -- ---- what the scan makes of an answer
 
 module _ (scan : Scan) (b : Bool) (address : ℕ) (is : b ≡ is_its_own scan address) where
-  pub reply_ends : (answer : Booking) (job sort n folder : ℕ) → answer ≡ Booked job address sort n folder → b ≡ true
+  pub reply_ends : (answer : Booking) (job sort n folder : ℕ) → answer ≡ booking job address sort n folder → b ≡ true
       → turn_over scan (answer_of sort) ≡ heard_reply scan answer
   reply_ends answer job sort n folder told taken = rw (told, sym is ∙ taken)
 
-  pub reply_leaves : (answer : Booking) (job sort n folder : ℕ) → answer ≡ Booked job address sort n folder → b ≡ false → scan ≡ heard_reply scan answer
+  pub reply_leaves : (answer : Booking) (job sort n folder : ℕ) → answer ≡ booking job address sort n folder → b ≡ false → scan ≡ heard_reply scan answer
   reply_leaves answer job sort n folder told left = rw (told, sym is ∙ left)
 
-  pub closing_ends : (answer : Closing) (job folder : ℕ) → answer ≡ Closed job address folder → b ≡ true → turn_over scan 0 ≡ heard_closing scan answer
+  pub closing_ends : (answer : Closing) (job folder : ℕ) → answer ≡ closing job address folder → b ≡ true → turn_over scan 0 ≡ heard_closing scan answer
   closing_ends answer job folder told taken = rw (told, sym is ∙ taken)
 
-  pub closing_leaves : (answer : Closing) (job folder : ℕ) → answer ≡ Closed job address folder → b ≡ false → scan ≡ heard_closing scan answer
+  pub closing_leaves : (answer : Closing) (job folder : ℕ) → answer ≡ closing job address folder → b ≡ false → scan ≡ heard_closing scan answer
   closing_leaves answer job folder told left = rw (told, sym is ∙ left)
 
 -- ---- what was found

@@ -1,5 +1,6 @@
 -- What callers may cite of the scan. 02, #113.
 -- Assumes nothing.
+use Rattle.std.specs.Prelude.{Ok, Err}
 use mathlib.Core.Path.{◌≡◌, refl, sym, ap, ◌∙◌}
 use mathlib.Core.Bool.{Bool, true, false, cond, not, ◌&&◌}
 use mathlib.Core.List.{List, [], ◌∷◌, ◌++◌}
@@ -18,8 +19,7 @@ use Rattle.rows.specs.Settled.{Settled}
 use Rattle.lent.specs.Lent.{over}
 use Rattle.ticket.specs.Due.{age}
 use Rattle.telegram.specs.Read.{Reads}
-use Rattle.telegram.specs.declared.Reading.{Reading}
-use Rattle.telegram.specs.declared.Reading.TheVariants.{Telegram}
+use Rattle.telegram.specs.Answers.{Reading}
 use Rattle.desk.proofs.Count.{refused_count_lem}
 use Rattle.desk.proofs.Laws.{opens_settled, open_refusal_keeps, request_reads_back}
 use Rattle.desk.proofs.Ranking.{open_exactly, open_plainly}
@@ -27,22 +27,19 @@ use Rattle.desk.specs.Desk.{fault_number as desk_number}
 use Rattle.desk.specs.Desk.{ticket_at}
 use Rattle.desk.specs.Open.{Opens, open_rows, open_told, distance_of, given_place, request_at}
 use Rattle.desk.specs.declared.AfterOpen.{AfterOpen}
-use Rattle.desk.specs.declared.Booking.{Booking}
-use Rattle.desk.specs.declared.Booking.TheVariants.{Booked, Refused as NotBooked}
-use Rattle.desk.specs.declared.Closing.{Closing}
-use Rattle.desk.specs.declared.Closing.TheVariants.{Closed, Refused as NotClosed}
+use Rattle.desk.specs.Answers.{Booking, booking, closing, opening}
+use Rattle.desk.specs.Answers.{Closing}
 use Rattle.desk.specs.declared.Desk.{Desk}
 use Rattle.desk.specs.declared.Fault.{Fault}
-use Rattle.desk.specs.declared.Opening.{Opening}
-use Rattle.desk.specs.declared.Opening.TheVariants.{Opened, Refused as NotOpened}
+use Rattle.desk.specs.Answers.{Opening}
 use Rattle.scan.specs.Scan.{request, is_done, is_out, now_out, after_opening, from_desk, step_told, Stays, Passes, StepsBy, is_its_own, turn_over, answer_of, is_over, found}
 use Rattle.scan.specs.Scan.{Makes, Steps, HearsReply, HearsClosing, Looks}
 use Rattle.scan.specs.declared.AfterStep.{AfterStep}
 use Rattle.scan.specs.declared.Found.{Found}
 use Rattle.scan.specs.declared.Found.TheVariants.{NotYet, Absent, Present}
 use Rattle.scan.specs.declared.Scan.{Scan}
-use Rattle.scan.specs.declared.Stepping.{Stepping}
-use Rattle.scan.specs.declared.Stepping.TheVariants.{Asked, Waiting, Done, Refused}
+use Rattle.scan.specs.Answers.{Stepping}
+use Rattle.scan.specs.declared.Stage.TheVariants.{Asked, Waiting, Done}
 
 -- ---- "It takes module addresses 1 to 160 in turn, asks each for register 61h through the desk with a wait of 100 ms"; "The scan has one job
 -- number and folder 0": a read, type 4
@@ -60,27 +57,27 @@ request_plainly scan = (refl, refl, refl, refl, refl, refl)
 
 -- the desk's answer, by what was passed on
 module _ (turn : ℕ) where
-  was_opened : (a : Opening) (address unit n : ℕ) → Asked address unit n ≡ from_desk turn a → (a ≡ Opened address n) × (unit ≡ turn)
-  was_opened (Opened there m) address unit n e = (cc, cc)
-  was_opened (NotOpened f) address unit n e = clash (cc)
+  was_opened : (a : Opening) (address unit n : ℕ) → Ok (Asked address unit n) ≡ from_desk turn a → (a ≡ opening address n) × (unit ≡ turn)
+  was_opened (Ok opened) address unit n e = (let a : address ≡ opened.address = cc in let s : n ≡ opened.size = cc in rw (a, s) refl, cc)
+  was_opened (Err f) address unit n e = clash (cc)
 
-  was_refused : (a : Opening) (f : Fault) → Refused f ≡ from_desk turn a → a ≡ NotOpened f
-  was_refused (Opened there m) f e = clash (cc)
-  was_refused (NotOpened g) f e = cc
+  was_refused : (a : Opening) (f : Fault) → Err f ≡ from_desk turn a → a ≡ Err f
+  was_refused (Ok opened) f e = clash (cc)
+  was_refused (Err g) f e = cc
 
-  not_done : (a : Opening) → Done ≡ from_desk turn a → ⊥
-  not_done (Opened there m) e = clash (cc)
-  not_done (NotOpened g) e = clash (cc)
+  not_done : (a : Opening) → (Ok Done) ≡ from_desk turn a → ⊥
+  not_done (Ok opened) e = clash (cc)
+  not_done (Err g) e = clash (cc)
 
-  not_waiting : (a : Opening) (address : ℕ) → Waiting address ≡ from_desk turn a → ⊥
-  not_waiting (Opened there m) address e = clash (cc)
-  not_waiting (NotOpened g) address e = clash (cc)
+  not_waiting : (a : Opening) (address : ℕ) → Ok (Waiting address) ≡ from_desk turn a → ⊥
+  not_waiting (Ok opened) address e = clash (cc)
+  not_waiting (Err g) address e = clash (cc)
 
   passed_told : (a : Opening) → step_told (from_desk turn a) ≡ open_told a
-  passed_told (Opened there m) = refl
-  passed_told (NotOpened g) = refl
+  passed_told (Ok opened) = refl
+  passed_told (Err g) = refl
 
-waiting_is : {a b : ℕ} → Waiting a ≡ Waiting b → a ≡ b
+waiting_is : {a b : ℕ} → ◌≡◌ {A = Stepping} (Ok (Waiting a)) (Ok (Waiting b)) → a ≡ b
 waiting_is e = cc
 
 -- an outcome, part by part
@@ -93,15 +90,15 @@ module _ (scan : Scan) (desk : Desk) (clock : ℕ) (room : List ℕ) where
   stepped_settled : (done out : Bool) → Settled {A = AfterStep × List ℕ} (λ o. StepsBy done out scan desk clock room o.0 o.1)
   stepped_settled true out =
       record {
-        outcome = (record { answer = Done; scan = scan; desk = desk; count = 0 }, room);
+        outcome = (record { answer = (Ok Done); scan = scan; desk = desk; count = 0 }, room);
         is_allowed_lem = ((refl, refl, refl, refl), refl);
-        only = λ p a. same p.0 p.1 Done scan desk 0 room a.0.0 a.0.1 a.0.2 a.0.3 a.1;
+        only = λ p a. same p.0 p.1 (Ok Done) scan desk 0 room a.0.0 a.0.1 a.0.2 a.0.3 a.1;
       }
   stepped_settled false true =
       record {
-        outcome = (record { answer = Waiting scan.out; scan = scan; desk = desk; count = 0 }, room);
+        outcome = (record { answer = Ok (Waiting scan.out); scan = scan; desk = desk; count = 0 }, room);
         is_allowed_lem = ((refl, refl, refl, refl), refl);
-        only = λ p a. same p.0 p.1 (Waiting scan.out) scan desk 0 room a.0.0 a.0.1 a.0.2 a.0.3 a.1;
+        only = λ p a. same p.0 p.1 (Ok (Waiting scan.out)) scan desk 0 room a.0.0 a.0.1 a.0.2 a.0.3 a.1;
       }
   stepped_settled false false =
       let opens = opens_settled desk (request scan) [] clock room in
@@ -151,10 +148,10 @@ told_ranked rs numbers (some k) n = (n.each k).0 refl
 module _ (scan : Scan) (desk : Desk) (clock : ℕ) (room : List ℕ) (r : AfterStep) (room' : List ℕ) (steps : Steps scan desk clock room r room') where
   -- it is over, or it waits, or the desk was asked
   abbrev IsOver : Type 0
-  IsOver = (160 ≤ scan.turns) × (Stays scan desk Done r × (room' ≡ room))
+  IsOver = (160 ≤ scan.turns) × (Stays scan desk (Ok Done) r × (room' ≡ room))
 
   abbrev Waits : Type 0
-  Waits = (scan.turns < 160) × (scan.out ≢ 0) × (Stays scan desk (Waiting scan.out) r × (room' ≡ room))
+  Waits = (scan.turns < 160) × (scan.out ≢ 0) × (Stays scan desk (Ok (Waiting scan.out)) r × (room' ≡ room))
 
   abbrev Went : Type 0
   Went = (scan.turns < 160) × (scan.out ≡ 0) × ((o : AfterOpen) × Opens desk (request scan) [] clock room o room' × Passes scan (scan.turns + 1) o r)
@@ -168,14 +165,14 @@ module _ (scan : Scan) (desk : Desk) (clock : ℕ) (room : List ℕ) (r : AfterS
       go false p true q s = inr (inr (leb-false 160 scan.turns p, eqb-true scan.out 0 q, s))
 
   -- "It ends after exactly 160 turns": after them nothing is asked and nothing changes
-  pub done_stays : 160 ≤ scan.turns → (r.answer ≡ Done) × (r.scan ≡ scan) × (r.desk ≡ desk) × (r.count ≡ 0) × (room' ≡ room)
+  pub done_stays : 160 ≤ scan.turns → (r.answer ≡ Ok Done) × (r.scan ≡ scan) × (r.desk ≡ desk) × (r.count ≡ 0) × (room' ≡ room)
   done_stays all =
       ⊎_elim (λ w. (w.1.0.0, w.1.0.1, w.1.0.2, w.1.0.3, w.1.1))
       (λ h. ⊎_elim (λ w. absurd (let l = w.0 in omega arith)) (λ w. absurd (let l = w.0 in omega arith)) h) which
 
   -- "and moves on when that ticket is booked, expires or is cancelled": until then it waits, and nothing changes
   pub waiting_stays : scan.turns < 160 → scan.out ≢ 0
-      → (r.answer ≡ Waiting scan.out) × (r.scan ≡ scan) × (r.desk ≡ desk) × (r.count ≡ 0) × (room' ≡ room)
+      → (r.answer ≡ Ok (Waiting scan.out)) × (r.scan ≡ scan) × (r.desk ≡ desk) × (r.count ≡ 0) × (room' ≡ room)
   waiting_stays left out =
       ⊎_elim (λ w. absurd (let l = w.0 in omega arith))
       (λ h. ⊎_elim (λ w. (w.2.0.0, w.2.0.1, w.2.0.2, w.2.0.3, w.2.1)) (λ w. absurd (out w.1)) h) which
@@ -196,41 +193,41 @@ module _ (scan : Scan) (desk : Desk) (clock : ℕ) (room : List ℕ) (r : AfterS
       (w.0, w.1, ap step_told w.2.0 ∙ passed_told (scan.turns + 1) w.0.answer, w.2.2, w.2.3)
 
   -- by its answer: done exactly after 160 turns, waiting exactly where a ticket is out before that
-  pub done_exactly : (r.answer ≡ Done) ↔ (160 ≤ scan.turns)
+  pub done_exactly : (r.answer ≡ Ok Done) ↔ (160 ≤ scan.turns)
   done_exactly = (
     λ e.
         ⊎_elim (λ w. w.0)
         (λ h. ⊎_elim
-        (λ w. let both : Done ≡ Waiting scan.out = sym e ∙ w.2.0.0 in clash (cc))
+        (λ w. let both : (Ok Done) ≡ Ok (Waiting scan.out) = sym e ∙ w.2.0.0 in clash (cc))
         (λ w. absurd (not_done (scan.turns + 1) w.2.0.answer (sym e ∙ w.2.2.0))) h) which,
     λ all. (done_stays all).0,
   )
 
-  pub waiting_exactly : (address : ℕ) → (r.answer ≡ Waiting address) ↔ ((scan.turns < 160) × (scan.out ≢ 0) × (scan.out ≡ address))
+  pub waiting_exactly : (address : ℕ) → (r.answer ≡ Ok (Waiting address)) ↔ ((scan.turns < 160) × (scan.out ≢ 0) × (scan.out ≡ address))
   waiting_exactly address = (
     λ e.
-        ⊎_elim (λ w. let both : Waiting address ≡ Done = sym e ∙ w.1.0.0 in clash (cc))
+        ⊎_elim (λ w. let both : Ok (Waiting address) ≡ (Ok Done) = sym e ∙ w.1.0.0 in clash (cc))
         (λ h. ⊎_elim
         (λ w. (w.0, w.1, waiting_is (sym w.2.0.0 ∙ e)))
         (λ w. absurd (not_waiting (scan.turns + 1) w.2.0.answer address (sym e ∙ w.2.2.0))) h) which,
-    λ h. (waiting_stays h.0 h.1).0 ∙ ap Waiting h.2,
+    λ h. (waiting_stays h.0 h.1).0 ∙ ap (λ x. Ok (Waiting x)) h.2,
   )
 
   -- a ticket was opened: it was the next module's turn, nothing was out, and the desk opened it, as it promises; its address is out now, and
   -- the results stay as they are until the scan is told
-  pub step_opened : (address unit n : ℕ) → r.answer ≡ Asked address unit n
+  pub step_opened : (address unit n : ℕ) → r.answer ≡ Ok (Asked address unit n)
       → (scan.turns < 160)
       × (scan.out ≡ 0)
       × (unit ≡ scan.turns + 1)
       × ((o : AfterOpen)
       × Opens desk (record { job = scan.job; unit = scan.turns + 1; sort = 4; register = 97; wait = 100; folder = 0 }) [] clock room o room'
-      × (o.answer ≡ Opened address n)
+      × (o.answer ≡ opening address n)
       × (r.desk ≡ o.desk)
       × (r.scan ≡ record { job = scan.job; turns = scan.turns; out = address; results = scan.results })
       × (r.count ≡ o.count))
   step_opened address unit n e =
-      ⊎_elim (λ w. let both : Asked address unit n ≡ Done = sym e ∙ w.1.0.0 in clash (cc))
-      (λ h. ⊎_elim (λ w. let both : Asked address unit n ≡ Waiting scan.out = sym e ∙ w.2.0.0 in clash (cc)) by_desk h) which
+      ⊎_elim (λ w. let both : Ok (Asked address unit n) ≡ (Ok Done) = sym e ∙ w.1.0.0 in clash (cc))
+      (λ h. ⊎_elim (λ w. let both : Ok (Asked address unit n) ≡ Ok (Waiting scan.out) = sym e ∙ w.2.0.0 in clash (cc)) by_desk h) which
     where
       by_desk : Went
           → (scan.turns < 160)
@@ -238,7 +235,7 @@ module _ (scan : Scan) (desk : Desk) (clock : ℕ) (room : List ℕ) (r : AfterS
           × (unit ≡ scan.turns + 1)
           × ((o : AfterOpen)
           × Opens desk (request scan) [] clock room o room'
-          × (o.answer ≡ Opened address n)
+          × (o.answer ≡ opening address n)
           × (r.desk ≡ o.desk)
           × (r.scan ≡ now_out scan address)
           × (r.count ≡ o.count))
@@ -247,33 +244,33 @@ module _ (scan : Scan) (desk : Desk) (clock : ℕ) (room : List ℕ) (r : AfterS
           (w.0, w.1, was.1, (w.2.0, w.2.1, was.0, w.2.2.2, w.2.2.1 ∙ ap (after_opening scan) was.0, w.2.2.3))
 
   -- the telegram asks that module for register 61h, without data
-  pub step_telegram : (address unit n : ℕ) → r.answer ≡ Asked address unit n
+  pub step_telegram : (address unit n : ℕ) → r.answer ≡ Ok (Asked address unit n)
       → (buffer : List ℕ) (a : Reading) (buffer' : List ℕ) → Reads (take n room') buffer a buffer'
-      → (a ≡ Telegram (record { destination = scan.turns + 1; source = address; sort = 4; register = 97; size = 0 })) × (buffer' ≡ over [] buffer)
+      → (a ≡ Ok (record { destination = scan.turns + 1; source = address; sort = 4; register = 97; size = 0 })) × (buffer' ≡ over [] buffer)
   step_telegram address unit n e buffer reading buffer' reads =
       let o = (step_opened address unit n e).3 in
       request_reads_back desk (request scan) [] clock room o.0 room' o.1 address n o.2 buffer reading buffer' (omega arith) reads
 
   -- the desk refused that request so, and its number and count are passed up
-  pub step_passed_up : (f : Fault) → r.answer ≡ Refused f
+  pub step_passed_up : (f : Fault) → r.answer ≡ Err f
       → (scan.turns < 160)
       × (scan.out ≡ 0)
       × ((o : AfterOpen)
       × Opens desk (record { job = scan.job; unit = scan.turns + 1; sort = 4; register = 97; wait = 100; folder = 0 }) [] clock room o room'
-      × (o.answer ≡ NotOpened f)
+      × (o.answer ≡ Err f)
       × (r.scan ≡ scan)
       × (r.desk ≡ o.desk)
       × (r.count ≡ o.count))
   step_passed_up f e =
-      ⊎_elim (λ w. let both : Refused f ≡ Done = sym e ∙ w.1.0.0 in clash (cc))
-      (λ h. ⊎_elim (λ w. let both : Refused f ≡ Waiting scan.out = sym e ∙ w.2.0.0 in clash (cc)) by_desk h) which
+      ⊎_elim (λ w. let both : Err f ≡ (Ok Done) = sym e ∙ w.1.0.0 in clash (cc))
+      (λ h. ⊎_elim (λ w. let both : Err f ≡ Ok (Waiting scan.out) = sym e ∙ w.2.0.0 in clash (cc)) by_desk h) which
     where
       by_desk : Went
           → (scan.turns < 160)
           × (scan.out ≡ 0)
           × ((o : AfterOpen)
           × Opens desk (request scan) [] clock room o room'
-          × (o.answer ≡ NotOpened f)
+          × (o.answer ≡ Err f)
           × (r.scan ≡ scan)
           × (r.desk ≡ o.desk)
           × (r.count ≡ o.count))
@@ -282,14 +279,14 @@ module _ (scan : Scan) (desk : Desk) (clock : ℕ) (room : List ℕ) (r : AfterS
           (w.0, w.1, (w.2.0, w.2.1, was, w.2.2.1 ∙ ap (after_opening scan) was, w.2.2.2, w.2.2.3))
 
   -- "A turn whose opening is refused, whatever the number, is tried again at the next call and isn't one of the 160": nothing changes
-  pub step_refusal_keeps : (f : Fault) → r.answer ≡ Refused f → (r.scan ≡ scan) × (r.desk ≡ desk) × (room' ≡ room)
+  pub step_refusal_keeps : (f : Fault) → r.answer ≡ Err f → (r.scan ≡ scan) × (r.desk ≡ desk) × (room' ≡ room)
   step_refusal_keeps f e =
       let o = (step_passed_up f e).2 in
       let kept = open_refusal_keeps desk (request scan) [] clock room o.0 room' o.1 f o.2 in
       (o.3, o.4 ∙ kept.0, kept.1)
 
   -- 02, #108: and the count that comes with it, by the desk's number
-  pub step_refused_count : (f : Fault) → r.answer ≡ Refused f → (n : ℕ) → desk_number f ≡ n
+  pub step_refused_count : (f : Fault) → r.answer ≡ Err f → (n : ℕ) → desk_number f ≡ n
       → (n ≤ 14 → r.count ≡ 0) × (n ≡ 15 → r.count ≡ 95) × (n ≡ 16 → r.count ≡ distance_of desk clock + 1)
   step_refused_count f e n is =
       let o = (step_passed_up f e).2 in
@@ -344,25 +341,25 @@ module _ (scan : Scan) (desk : Desk) (clock : ℕ) (room : List ℕ) (r : AfterS
   step_tells_nothing = (λ all. ap step_told (done_stays all).0, λ left out. ap step_told (waiting_stays left out).0)
 
 pub told_number : (f : Fault) (address unit n : ℕ)
-    → (step_told (Refused f) ≡ some (desk_number f)) × (step_told (Asked address unit n) ≡ none) × (step_told (Waiting address) ≡ none) × (step_told Done ≡ none)
+    → (step_told (Err f) ≡ some (desk_number f)) × (step_told (Ok (Asked address unit n)) ≡ none) × (step_told (Ok (Waiting address)) ≡ none) × (step_told (Ok Done) ≡ none)
 told_number f address unit n = (refl, refl, refl, refl)
 
 -- ---- what the scan makes of the desk's answers
 
 -- a refusal of the desk's tells it nothing, and neither does an answer while nothing is out
-pub refusals_tell_nothing : (scan r : Scan) (f : Fault) → (HearsReply scan (NotBooked f) r → r ≡ scan) × (HearsClosing scan (NotClosed f) r → r ≡ scan)
+pub refusals_tell_nothing : (scan r : Scan) (f : Fault) → (HearsReply scan (Err f) r → r ≡ scan) × (HearsClosing scan (Err f) r → r ≡ scan)
 refusals_tell_nothing scan r f = (λ p. p, λ p. p)
 
 pub nothing_out_stays : (scan r : Scan) → scan.out ≡ 0
-    → ((job address sort n folder : ℕ) → HearsReply scan (Booked job address sort n folder) r → r ≡ scan)
-    × ((job address folder : ℕ) → HearsClosing scan (Closed job address folder) r → r ≡ scan)
+    → ((job address sort n folder : ℕ) → HearsReply scan (booking job address sort n folder) r → r ≡ scan)
+    × ((job address folder : ℕ) → HearsClosing scan (closing job address folder) r → r ≡ scan)
 nothing_out_stays scan r free =
     (λ job address sort n folder p. p ∙ rw (eq-eqb scan.out 0 free), λ job address folder p. p ∙ rw (eq-eqb scan.out 0 free))
 
 -- nor does one about another address
 pub elsewhere_stays : (scan r : Scan) (address : ℕ) → scan.out ≢ address
-    → ((job sort n folder : ℕ) → HearsReply scan (Booked job address sort n folder) r → r ≡ scan)
-    × ((job folder : ℕ) → HearsClosing scan (Closed job address folder) r → r ≡ scan)
+    → ((job sort n folder : ℕ) → HearsReply scan (booking job address sort n folder) r → r ≡ scan)
+    × ((job folder : ℕ) → HearsClosing scan (closing job address folder) r → r ≡ scan)
 elsewhere_stays scan r address apart = (λ job sort n folder p. p ∙ by_out (is_out scan) _, λ job folder p. p ∙ by_out (is_out scan) _)
   where
     by_out : (b : Bool) (after : Scan) → cond (b && eqb scan.out address) after scan ≡ scan
@@ -373,18 +370,18 @@ elsewhere_stays scan r address apart = (λ job sort n folder p. p ∙ by_out (is
 -- more, and the results before it stay
 module _ (scan r : Scan) (out : scan.out ≢ 0) (left : scan.turns < 160) where
   -- "1 for a datagram"
-  pub datagram_is_1 : (job n folder : ℕ) → HearsReply scan (Booked job scan.out 8 n folder) r
+  pub datagram_is_1 : (job n folder : ℕ) → HearsReply scan (booking job scan.out 8 n folder) r
       → r ≡ record { job = scan.job; turns = scan.turns + 1; out = 0; results = set scan.results scan.turns 1 }
   datagram_is_1 job n folder p = p ∙ rw (ne_eqb scan.out 0 out, eq-eqb scan.out scan.out refl, lt-leb 160 scan.turns left)
 
   -- "2 for nack, check error or busy"
-  pub else_is_2 : (job sort n folder : ℕ) → sort ≢ 8 → HearsReply scan (Booked job scan.out sort n folder) r
+  pub else_is_2 : (job sort n folder : ℕ) → sort ≢ 8 → HearsReply scan (booking job scan.out sort n folder) r
       → r ≡ record { job = scan.job; turns = scan.turns + 1; out = 0; results = set scan.results scan.turns 2 }
   else_is_2 job sort n folder other p =
       p ∙ rw (ne_eqb scan.out 0 out, eq-eqb scan.out scan.out refl, lt-leb 160 scan.turns left, ne_eqb sort 8 other)
 
   -- "A cancelled scan ticket counts as absent", and so does one that expires: 0
-  pub closed_is_absent : (job folder : ℕ) → HearsClosing scan (Closed job scan.out folder) r
+  pub closed_is_absent : (job folder : ℕ) → HearsClosing scan (closing job scan.out folder) r
       → r ≡ record { job = scan.job; turns = scan.turns + 1; out = 0; results = set scan.results scan.turns 0 }
   closed_is_absent job folder p = p ∙ rw (ne_eqb scan.out 0 out, eq-eqb scan.out scan.out refl, lt-leb 160 scan.turns left)
 
@@ -409,12 +406,12 @@ none_after_160 scan r all = (reply, closing)
     stays false result = refl
 
     reply : (answer : Booking) → HearsReply scan answer r → r ≡ scan
-    reply (NotBooked f) p = p
-    reply (Booked job address sort n folder) p = p ∙ stays (is_its_own scan address) (answer_of sort)
+    reply (Err f) p = p
+    reply (Ok booked) p = p ∙ stays (is_its_own scan booked.address) (answer_of booked.sort)
 
     closing : (answer : Closing) → HearsClosing scan answer r → r ≡ scan
-    closing (NotClosed f) p = p
-    closing (Closed job address folder) p = p ∙ stays (is_its_own scan address) 0
+    closing (Err f) p = p
+    closing (Ok closed) p = p ∙ stays (is_its_own scan closed.address) 0
 
 -- ---- "with, for each address, absent or a number": of the turns that are over, and of no others
 

@@ -1,25 +1,22 @@
 -- Who is on the line. 02, #113: "It takes module addresses 1 to 160 in turn, asks each for register 61h through the desk with a wait of 100 ms,
 -- and moves on when that ticket is booked, expires or is cancelled."
 -- Assumes nothing.
-use Rattle.std.specs.Prelude.{◌≡◌, Bool, true, false, cond, not, ◌&&◌, List, [], ℕ, ◌+◌, ◌-◌, eqb, leb, get_or, replicate, set}
+use Rattle.std.specs.Prelude.{◌≡◌, Bool, true, false, cond, not, ◌&&◌, List, [], ℕ, ◌+◌, ◌-◌, eqb, leb, get_or, replicate, set, Ok, Err}
 use Rattle.std.proofs.Math.Option.{Option, some, none}
 use Rattle.request.specs.declared.Request.{Request}
 use Rattle.desk.specs.Desk.{fault_number as desk_number}
 use Rattle.desk.specs.Open.{Opens}
 use Rattle.desk.specs.declared.AfterOpen.{AfterOpen}
-use Rattle.desk.specs.declared.Booking.{Booking}
-use Rattle.desk.specs.declared.Booking.TheVariants.{Booked, Refused as NotBooked}
-use Rattle.desk.specs.declared.Closing.{Closing}
-use Rattle.desk.specs.declared.Closing.TheVariants.{Closed, Refused as NotClosed}
+use Rattle.desk.specs.Answers.{Booking, opening}
+use Rattle.desk.specs.Answers.{Closing}
 use Rattle.desk.specs.declared.Desk.{Desk}
-use Rattle.desk.specs.declared.Opening.{Opening}
-use Rattle.desk.specs.declared.Opening.TheVariants.{Opened, Refused as NotOpened}
+use Rattle.desk.specs.Answers.{Opening}
 use Rattle.scan.specs.declared.AfterStep.{AfterStep}
 use Rattle.scan.specs.declared.Found.{Found}
 use Rattle.scan.specs.declared.Found.TheVariants.{NotYet, Absent, Present}
 use Rattle.scan.specs.declared.Scan.{Scan}
-use Rattle.scan.specs.declared.Stepping.{Stepping}
-use Rattle.scan.specs.declared.Stepping.TheVariants.{Asked, Waiting, Done, Refused}
+use Rattle.scan.specs.Answers.{Stepping}
+use Rattle.scan.specs.declared.Stage.TheVariants.{Asked, Waiting, Done}
 
 abbrev pub fresh_scan : ℕ → Scan
 fresh_scan job = record { job = job; turns = 0; out = 0; results = replicate 160 0 }
@@ -44,20 +41,20 @@ now_out scan address = record { job = scan.job; turns = scan.turns; out = addres
 -- the scan once the desk has answered: "A turn whose opening is refused, whatever the number, is tried again at the next call and isn't one of
 -- the 160."
 abbrev pub after_opening : Scan → Opening → Scan
-after_opening scan (Opened address n) = now_out scan address
-after_opening scan (NotOpened f) = scan
+after_opening scan (Ok opened) = now_out scan opened.address
+after_opening scan (Err f) = scan
 
 -- the desk's answer passed on, with the module that was asked
 abbrev pub from_desk : ℕ → Opening → Stepping
-from_desk unit (Opened address n) = Asked address unit n
-from_desk unit (NotOpened f) = Refused f
+from_desk unit (Ok opened) = Ok (Asked opened.address unit opened.size)
+from_desk unit (Err f) = Err f
 
 -- the number that an answer tells, or none
 abbrev pub step_told : Stepping → Option ℕ
-step_told (Refused f) = some (desk_number f)
-step_told (Asked address unit n) = none
-step_told (Waiting address) = none
-step_told Done = none
+step_told (Err f) = some (desk_number f)
+step_told (Ok (Asked address unit n)) = none
+step_told (Ok (Waiting address)) = none
+step_told (Ok Done) = none
 
 -- nothing was asked
 abbrev pub Stays : Scan → Desk → Stepping → AfterStep → Type 0
@@ -70,8 +67,8 @@ Passes scan unit o r =
 
 -- a step: done after 160 turns, waiting while a ticket is out, else the next module is asked by the desk's own `open`
 abbrev pub StepsBy : Bool → Bool → Scan → Desk → ℕ → List ℕ → AfterStep → List ℕ → Type 0
-StepsBy true out scan desk clock room r room' = Stays scan desk Done r × (room' ≡ room)
-StepsBy false true scan desk clock room r room' = Stays scan desk (Waiting scan.out) r × (room' ≡ room)
+StepsBy true out scan desk clock room r room' = Stays scan desk (Ok Done) r × (room' ≡ room)
+StepsBy false true scan desk clock room r room' = Stays scan desk (Ok (Waiting scan.out)) r × (room' ≡ room)
 StepsBy false false scan desk clock room r room' = (o : AfterOpen) × Opens desk (request scan) [] clock room o room' × Passes scan (scan.turns + 1) o r
 
 -- ---- what the desk answers is told to the scan: "moves on when that ticket is booked, expires or is cancelled"
@@ -91,13 +88,13 @@ turn_over scan result =
     (record { job = scan.job; turns = scan.turns + 1; out = 0; results = set scan.results scan.turns result })
 
 abbrev pub heard_reply : Scan → Booking → Scan
-heard_reply scan (Booked job address sort n folder) = cond (is_its_own scan address) (turn_over scan (answer_of sort)) scan
-heard_reply scan (NotBooked f) = scan
+heard_reply scan (Ok booked) = cond (is_its_own scan booked.address) (turn_over scan (answer_of booked.sort)) scan
+heard_reply scan (Err f) = scan
 
 -- "A cancelled scan ticket counts as absent", and so does one that expires
 abbrev pub heard_closing : Scan → Closing → Scan
-heard_closing scan (Closed job address folder) = cond (is_its_own scan address) (turn_over scan 0) scan
-heard_closing scan (NotClosed f) = scan
+heard_closing scan (Ok closed) = cond (is_its_own scan closed.address) (turn_over scan 0) scan
+heard_closing scan (Err f) = scan
 
 -- ---- what was found at a module address
 

@@ -7,7 +7,7 @@ ghost use Rattle.scan.specs.Scan.{Makes, Steps, HearsReply, HearsClosing, Looks,
 ghost use Rattle.std.specs.Prelude.{◌≡◌};
 
 pub use desk::Desk;
-use desk::{AfterOpen, Booking, Closing, Opening, Request};
+use desk::{AfterOpen, Booked, Closed, Opened, Request};
 use telegram::{DATAGRAM, READ};
 
 // How many module addresses there are, and so how many turns.
@@ -39,16 +39,15 @@ pub struct Scan {
     pub results: [u8; 160],
 }
 
+// How far a step came.
 #[derive(Clone, Copy)]
-pub enum Stepping {
+pub enum Stage {
     // a ticket was opened: its host address, the module that it asks, the length of its telegram
     Asked(u8, u8, usize),
     // the ticket on that address is still out
     Waiting(u8),
     // all 160 turns are over
     Done,
-    // the desk refused; the turn is tried again
-    Refused(desk::Fault),
 }
 
 // A step's answer, with the scan and the desk as they are afterwards.
@@ -56,7 +55,8 @@ pub enum Stepping {
 pub struct AfterStep {
     pub scan: Scan,
     pub desk: Desk,
-    pub answer: Stepping,
+    // where the desk refused, the turn is tried again
+    pub answer: Result<Stage, desk::Fault>,
     // how many addresses the desk considered; 0 where it was not asked
     pub count: u8,
 }
@@ -87,10 +87,10 @@ pub fn step(scan: Scan, desk: Desk, clock: u32, room: &mut [u8]) -> AfterStep
     ensures { Steps scan desk clock room.old result room.new }
 {
     if TURNS <= scan.turns {
-        return stays(scan, desk, Stepping::Done);
+        return stays(scan, desk, Ok(Stage::Done));
     }
     if scan.out != 0 {
-        return stays(scan, desk, Stepping::Waiting(scan.out));
+        return stays(scan, desk, Ok(Stage::Waiting(scan.out)));
     }
     let unit = scan.turns + 1;
     let asked = Request {
@@ -110,7 +110,7 @@ pub fn step(scan: Scan, desk: Desk, clock: u32, room: &mut [u8]) -> AfterStep
 }
 
 // Nothing was asked.
-fn stays(scan: Scan, desk: Desk, answer: Stepping) -> AfterStep
+fn stays(scan: Scan, desk: Desk, answer: Result<Stage, desk::Fault>) -> AfterStep
     ensures { Stays scan desk answer result }
 {
     AfterStep {
@@ -128,16 +128,16 @@ fn passed_on(scan: Scan, unit: u8, opened: AfterOpen) -> AfterStep
     let desk = opened.desk;
     let answer = opened.answer;
     match answer {
-        Opening::Opened(address, n) => AfterStep {
+        Ok(Opened { address, size: n }) => AfterStep {
             scan: now_out(scan, address),
             desk,
-            answer: Stepping::Asked(address, unit, n),
+            answer: Ok(Stage::Asked(address, unit, n)),
             count: opened.count,
         },
-        Opening::Refused(fault) => AfterStep {
+        Err(fault) => AfterStep {
             scan,
             desk,
-            answer: Stepping::Refused(fault),
+            answer: Err(fault),
             count: opened.count,
         },
     }
@@ -156,10 +156,10 @@ fn now_out(scan: Scan, address: u8) -> Scan
 }
 
 // Tells the scan what the desk answered to a reply. Its own ticket, if it was that, has its answer.
-pub fn told_reply(scan: Scan, answer: Booking) -> Scan
+pub fn told_reply(scan: Scan, answer: Result<Booked, desk::Fault>) -> Scan
     ensures { HearsReply scan answer result }
 {
-    let Booking::Booked(_, address, sort, _, _) = answer else {
+    let Ok(Booked { address, sort, .. }) = answer else {
         return scan;
     };
     if is_its_own(scan, address) {
@@ -169,10 +169,10 @@ pub fn told_reply(scan: Scan, answer: Booking) -> Scan
 }
 
 // Tells the scan what the desk answered to cancel or expire. Its own ticket, if it was that, had none.
-pub fn told_closing(scan: Scan, answer: Closing) -> Scan
+pub fn told_closing(scan: Scan, answer: Result<Closed, desk::Fault>) -> Scan
     ensures { HearsClosing scan answer result }
 {
-    let Closing::Closed(_, address, _) = answer else {
+    let Ok(Closed { address, .. }) = answer else {
         return scan;
     };
     if is_its_own(scan, address) {

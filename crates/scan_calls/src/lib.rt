@@ -2,9 +2,9 @@
 // And who is told what the desk answered. A part of the test tool `rehearsal`.
 #![tactic(auto)]
 
-use desk::{Closing, Desk};
+use desk::{Closed, Desk, Fault};
 use desk_calls::Heard;
-use scan::{Found, Scan, Stepping};
+use scan::{Found, Scan, Stage};
 use varia::FilterBox;
 use words::{Words, count, word32};
 
@@ -95,16 +95,16 @@ fn step_now(shift: Shift, clock: u32, room: &mut [u8], out: &mut [u8]) -> Scanne
     }
 }
 
-fn stepped(answer: Stepping, count: u8, out: &mut [u8]) -> usize {
+fn stepped(answer: Result<Stage, Fault>, count: u8, out: &mut [u8]) -> usize {
     match answer {
-        Stepping::Asked(address, unit, n) => answers::form(
+        Ok(Stage::Asked(address, unit, n)) => answers::form(
             out,
             b"ok address=# module=# n=# count=#",
             &[address as u64, unit as u64, n as u64, count as u64],
         ),
-        Stepping::Waiting(address) => answers::form(out, b"ok waiting=#", &[address as u64]),
-        Stepping::Done => answers::text(out, 0, b"ok done=1"),
-        Stepping::Refused(fault) => answers::refused_count(out, desk::number(fault), count),
+        Ok(Stage::Waiting(address)) => answers::form(out, b"ok waiting=#", &[address as u64]),
+        Ok(Stage::Done) => answers::text(out, 0, b"ok done=1"),
+        Err(fault) => answers::refused_count(out, desk::number(fault), count),
     }
 }
 
@@ -188,7 +188,7 @@ pub fn told(hearers: Hearers, heard: Heard) -> Hearers {
     }
 }
 
-fn told_closing(hearers: Hearers, closing: Closing) -> Hearers {
+fn told_closing(hearers: Hearers, closing: Result<Closed, Fault>) -> Hearers {
     let filters = hearers.filters;
     let scan = hearers.scan;
     Hearers {
@@ -212,5 +212,12 @@ fn told_one(hearers: Hearers, job: u32, address: u32, folder: u32) -> Hearers {
     if 255 < address {
         return hearers;
     }
-    told_closing(hearers, Closing::Closed(job, (address % 256) as u8, folder))
+    told_closing(
+        hearers,
+        Ok(Closed {
+            job,
+            address: (address % 256) as u8,
+            folder,
+        }),
+    )
 }

@@ -1,5 +1,6 @@
 -- A scan of job 0: the desk refuses each of its requests, so it never takes a turn.
 -- Assumes nothing.
+use Rattle.std.specs.Prelude.{Ok, Err}
 use mathlib.Core.Path.{◌≡◌, refl, sym, ap, ◌∙◌}
 use mathlib.Core.List.{List}
 use mathlib.Core.Logic.{inl}
@@ -8,17 +9,15 @@ use Prim.Native.Nat.{ℕ, ◌-◌}
 use native.Mathlib.Omega.{arith}
 use lib.ListN.{replicate}
 use Rattle.rows.proofs.Laws.{clash}
-use Rattle.desk.specs.declared.Booking.{Booking}
-use Rattle.desk.specs.declared.Booking.TheVariants.{Booked, Refused as NotBooked}
-use Rattle.desk.specs.declared.Closing.{Closing}
-use Rattle.desk.specs.declared.Closing.TheVariants.{Closed, Refused as NotClosed}
+use Rattle.desk.specs.Answers.{Booking}
+use Rattle.desk.specs.Answers.{Closing}
 use Rattle.desk.specs.declared.Desk.{Desk}
 use Rattle.scan.proofs.Laws.{step_refusals, step_refusal_keeps, nothing_out_stays, refusals_tell_nothing}
 use Rattle.scan.specs.Scan.{Steps, HearsReply, HearsClosing, step_told}
 use Rattle.scan.specs.declared.AfterStep.{AfterStep}
 use Rattle.scan.specs.declared.Scan.{Scan}
-use Rattle.scan.specs.declared.Stepping.{Stepping}
-use Rattle.scan.specs.declared.Stepping.TheVariants.{Asked, Waiting, Done, Refused}
+use Rattle.scan.specs.Answers.{Stepping}
+use Rattle.scan.specs.declared.Stage.TheVariants.{Asked, Waiting, Done}
 use Rattle.scans.specs.Shift.{Event, Shift}
 use Rattle.scans.specs.Shift.{begins, steps, opens, replies, cancels, expires}
 
@@ -33,18 +32,18 @@ keeps : (scan : Scan) (desk : Desk) (clock : ℕ) (room : List ℕ) (r : AfterSt
 keeps scan desk clock room r room' c told = go r.answer refl
   where
     go : (a : Stepping) → r.answer ≡ a → r.scan ≡ scan
-    go (Refused f) is = (step_refusal_keeps scan desk clock room r room' c f is).0
-    go Done is = let both : ◌≡◌ {A = Option ℕ} none (some 10) = sym (ap step_told is) ∙ told in clash (cc)
-    go (Waiting x) is = let both : ◌≡◌ {A = Option ℕ} none (some 10) = sym (ap step_told is) ∙ told in clash (cc)
-    go (Asked x y z) is = let both : ◌≡◌ {A = Option ℕ} none (some 10) = sym (ap step_told is) ∙ told in clash (cc)
+    go (Err f) is = (step_refusal_keeps scan desk clock room r room' c f is).0
+    go (Ok Done) is = let both : ◌≡◌ {A = Option ℕ} none (some 10) = sym (ap step_told is) ∙ told in clash (cc)
+    go (Ok (Waiting x)) is = let both : ◌≡◌ {A = Option ℕ} none (some 10) = sym (ap step_told is) ∙ told in clash (cc)
+    go (Ok (Asked x y z)) is = let both : ◌≡◌ {A = Option ℕ} none (some 10) = sym (ap step_told is) ∙ told in clash (cc)
 
 reply_stays : (scan scan' : Scan) (a : Booking) → scan.out ≡ 0 → HearsReply scan a scan' → scan' ≡ scan
-reply_stays scan scan' (Booked j a s n f) free h = (nothing_out_stays scan scan' free).0 j a s n f h
-reply_stays scan scan' (NotBooked f) free h = (refusals_tell_nothing scan scan' f).0 h
+reply_stays scan scan' (Ok booked) free h = (nothing_out_stays scan scan' free).0 booked.job booked.address booked.sort booked.size booked.folder h
+reply_stays scan scan' (Err f) free h = (refusals_tell_nothing scan scan' f).0 h
 
 closing_stays : (scan scan' : Scan) (a : Closing) → scan.out ≡ 0 → HearsClosing scan a scan' → scan' ≡ scan
-closing_stays scan scan' (Closed j a f) free h = (nothing_out_stays scan scan' free).1 j a f h
-closing_stays scan scan' (NotClosed f) free h = (refusals_tell_nothing scan scan' f).1 h
+closing_stays scan scan' (Ok closed) free h = (nothing_out_stays scan scan' free).1 closed.job closed.address closed.folder h
+closing_stays scan scan' (Err f) free h = (refusals_tell_nothing scan scan' f).1 h
 
 -- "also with job 0, for ever": a scan of job 0 never takes a turn, and each of its steps is refused with 10
 pub job_0_stays : {scan : Scan} {desk : Desk} {past : List Event} → Shift 0 scan desk past → scan ≡ record { job = 0; turns = 0; out = 0; results = replicate 160 0 }

@@ -1,5 +1,6 @@
 -- What holds of a scan over any shift. 02, #113.
 -- Assumes nothing.
+use Rattle.std.specs.Prelude.{Ok, Err}
 use mathlib.Core.Path.{◌≡◌, refl, sym, ap, subst, ◌∙◌}
 use mathlib.Core.Bool.{Bool, true, false, true≢false}
 use mathlib.Core.List.{List, [], ◌∷◌, ◌++◌}
@@ -19,13 +20,10 @@ use Rattle.desk.specs.Reply.{Replies}
 use Rattle.desk.specs.declared.AfterClose.{AfterClose}
 use Rattle.desk.specs.declared.AfterOpen.{AfterOpen}
 use Rattle.desk.specs.declared.AfterReply.{AfterReply}
-use Rattle.desk.specs.declared.Booking.{Booking}
-use Rattle.desk.specs.declared.Booking.TheVariants.{Booked, Refused as NotBooked}
-use Rattle.desk.specs.declared.Closing.{Closing}
-use Rattle.desk.specs.declared.Closing.TheVariants.{Closed, Refused as NotClosed}
+use Rattle.desk.specs.Answers.{Booking, booking, closing, opening}
+use Rattle.desk.specs.Answers.{Closing}
 use Rattle.desk.specs.declared.Desk.{Desk}
-use Rattle.desk.specs.declared.Opening.{Opening}
-use Rattle.desk.specs.declared.Opening.TheVariants.{Opened, Refused as NotOpened}
+use Rattle.desk.specs.Answers.{Opening}
 use Rattle.nights.proofs.Laws.{step, any_night, opens_after, replies_after, cancels_after, expires_after}
 use Rattle.nights.specs.Night.{Night, event_of, answered_all, asks, brings, cancels as cancels_at, expires as expires_at}
 use Rattle.nights.specs.Night.{Event as Seen}
@@ -34,8 +32,8 @@ use Rattle.scan.proofs.Laws.{step_opened, step_refusal_keeps, done_exactly, done
 use Rattle.scan.specs.Scan.{request, fresh_scan, Steps, HearsReply, HearsClosing}
 use Rattle.scan.specs.declared.AfterStep.{AfterStep}
 use Rattle.scan.specs.declared.Scan.{Scan}
-use Rattle.scan.specs.declared.Stepping.{Stepping}
-use Rattle.scan.specs.declared.Stepping.TheVariants.{Asked, Waiting, Done, Refused}
+use Rattle.scan.specs.Answers.{Stepping}
+use Rattle.scan.specs.declared.Stage.TheVariants.{Asked, Waiting, Done}
 use Rattle.ticket.specs.Fit.{KindFits}
 use Rattle.ticket.specs.Ticket.{no_ticket, new_ticket, withdrawn_at}
 use Rattle.ticket.specs.declared.Ticket.{Ticket}
@@ -276,15 +274,15 @@ module _ (job : ℕ) (scan : Scan) (desk : Desk) (past : List Event) (s : Stands
   stands_nothing = record { seen = s.seen; night = s.night; follows = follows_nothing scan past s.follows; of_job = s.of_job; ticket = s.ticket }
 
   -- an opening at the desk, by its contract
-  module _ (what : Request) (bytes : List ℕ) (clock : ℕ) (room : List ℕ) (o : AfterOpen) (room' : List ℕ) (opening : Opens desk what bytes clock room o room') where
+  module _ (what : Request) (bytes : List ℕ) (clock : ℕ) (room : List ℕ) (o : AfterOpen) (room' : List ℕ) (opens : Opens desk what bytes clock room o room') where
     night_then : Night o.desk (event_of desk (asks what bytes clock room) ∷ s.seen)
     night_then =
-        let was = opens_after desk what bytes clock room o room' opening in
+        let was = opens_after desk what bytes clock room o room' opens in
         subst (λ (d : Desk). Night d (event_of desk (asks what bytes clock room) ∷ s.seen)) (sym was.0) (step desk s.seen s.night (asks what bytes clock room))
 
-    module _ (address n : ℕ) (is : o.answer ≡ Opened address n) where
+    module _ (address n : ℕ) (is : o.answer ≡ opening address n) where
       given : Given desk what clock address o.desk
-      given = opened_given desk what bytes clock room o room' opening address n s.night.sound.places is
+      given = opened_given desk what bytes clock room o room' opens address n s.night.sound.places is
 
       -- the scan's ticket is not there
       not_there : scan.out ≢ 0 → scan.out ≢ address
@@ -297,16 +295,16 @@ module _ (job : ℕ) (scan : Scan) (desk : Desk) (past : List Event) (s : Stands
     stands_opening = go o.answer refl
       where
         go : (a : Opening) → o.answer ≡ a → Stands job scan o.desk (of_opening a ∷ past)
-        go (Opened address n) is =
+        go (Ok told) is =
             record {
               seen = event_of desk (asks what bytes clock room) ∷ s.seen;
               night = night_then;
-              follows = follows_opened scan past s.follows address (not_there address n is);
+              follows = follows_opened scan past s.follows told.address (not_there told.address told.size is);
               of_job = s.of_job;
-              ticket = λ out. let t = s.ticket out in (t.0, (given address n is).others scan.out (not_there address n is out) ∙ t.1);
+              ticket = λ out. let t = s.ticket out in (t.0, (given told.address told.size is).others scan.out (not_there told.address told.size is out) ∙ t.1);
             }
-        go (NotOpened f) is =
-            subst (λ (d : Desk). Stands job scan d (nothing ∷ past)) (sym (open_refusal_keeps desk what bytes clock room o room' opening f is).0) stands_nothing
+        go (Err f) is =
+            subst (λ (d : Desk). Stands job scan d (nothing ∷ past)) (sym (open_refusal_keeps desk what bytes clock room o room' opens f is).0) stands_nothing
 
   -- a step of the scan
   stands_step : (clock : ℕ) (room : List ℕ) (r : AfterStep) (room' : List ℕ) → Steps scan desk clock room r room' → Stands job r.scan r.desk (of_step r.answer ∷ past)
@@ -316,13 +314,13 @@ module _ (job : ℕ) (scan : Scan) (desk : Desk) (past : List Event) (s : Stands
       stays same_scan same_desk = rw (same_scan, same_desk) stands_nothing
 
       go : (a : Stepping) → r.answer ≡ a → Stands job r.scan r.desk (of_step a ∷ past)
-      go Done is = let t = done_stays scan desk clock room r room' c ((done_exactly scan desk clock room r room' c).0 is) in stays t.1 t.2
-      go (Waiting address) is =
+      go (Ok Done) is = let t = done_stays scan desk clock room r room' c ((done_exactly scan desk clock room r room' c).0 is) in stays t.1 t.2
+      go (Ok (Waiting address)) is =
           let w = (waiting_exactly scan desk clock room r room' c address).0 is in
           let t = waiting_stays scan desk clock room r room' c w.0 w.1 in
           stays t.1 t.2
-      go (Refused f) is = let t = step_refusal_keeps scan desk clock room r room' c f is in stays t.0 t.1
-      go (Asked address unit n) is =
+      go (Err f) is = let t = step_refusal_keeps scan desk clock room r room' c f is in stays t.0 t.1
+      go (Ok (Asked address unit n)) is =
           let t = step_opened scan desk clock room r room' c address unit n is in
           let o = t.3 in
           let stood = given (request scan) [] clock room o.0 room' o.1 address n o.2 in
@@ -366,14 +364,14 @@ module _ (job : ℕ) (scan : Scan) (desk : Desk) (past : List Event) (s : Stands
         let was = replies_after desk frame room r room' replying in
         subst (λ (d : Desk). Night d (event_of desk (brings frame room) ∷ s.seen)) (sym was.0) (step desk s.seen s.night (brings frame room))
 
-    booked_elsewhere : (theirs address sort n folder : ℕ) → r.answer ≡ Booked theirs address sort n folder → (scan.out ≢ 0 → scan.out ≢ address) → scan' ≡ scan
+    booked_elsewhere : (theirs address sort n folder : ℕ) → r.answer ≡ booking theirs address sort n folder → (scan.out ≢ 0 → scan.out ≢ address) → scan' ≡ scan
         → Stands job scan' r.desk (booked address sort ∷ past)
     booked_elsewhere theirs address sort n folder is apart same =
         closed_away (booked address sort) address no_ticket r.desk (event_of desk (brings frame room) ∷ s.seen) night_replied
         (booked_right desk frame room r room' replying theirs address sort n folder is).0.closes apart (booked_away scan past s.follows address sort apart) scan' same
 
     -- a read is answered by type 8, 0, 1 or 2
-    booked_own : (theirs sort n folder : ℕ) → r.answer ≡ Booked theirs scan.out sort n folder → scan.out ≢ 0 → HearsReply scan (Booked theirs scan.out sort n folder) scan'
+    booked_own : (theirs sort n folder : ℕ) → r.answer ≡ booking theirs scan.out sort n folder → scan.out ≢ 0 → HearsReply scan (booking theirs scan.out sort n folder) scan'
         → Stands job scan' r.desk (booked scan.out sort ∷ past)
     booked_own theirs sort n folder is out told =
         let books = (booked_right desk frame room r room' replying theirs scan.out sort n folder is).0 in
@@ -386,7 +384,7 @@ module _ (job : ℕ) (scan : Scan) (desk : Desk) (past : List Event) (s : Stands
             subst (λ (k : ℕ). Stands job scan' r.desk (booked scan.out k ∷ past)) (sym eight)
             (closed_own (booked scan.out 8) r.desk (event_of desk (brings frame room) ∷ s.seen) night_replied 1 scan'
             (datagram_is_1 scan scan' out (s.follows.left out) theirs n folder
-            (subst (λ (k : ℕ). HearsReply scan (Booked theirs scan.out k n folder) scan') eight told))
+            (subst (λ (k : ℕ). HearsReply scan (booking theirs scan.out k n folder) scan') eight told))
             (booked_1 scan past s.follows out))
 
         by_less : sort ≤ 2 → Stands job scan' r.desk (booked scan.out sort ∷ past)
@@ -399,23 +397,23 @@ module _ (job : ℕ) (scan : Scan) (desk : Desk) (past : List Event) (s : Stands
     stands_reply hears = go r.answer refl hears
       where
         go : (a : Booking) → r.answer ≡ a → HearsReply scan a scan' → Stands job scan' r.desk (of_booking a ∷ past)
-        go (NotBooked f) is told =
+        go (Err f) is told =
             rw told (subst (λ (d : Desk). Stands job scan d (nothing ∷ past)) (sym (reply_refusal_keeps desk frame room r room' replying f is).0) stands_nothing)
-        go (Booked theirs address sort n folder) is told =
+        go (Ok heard) is told =
             ⊎_elim
             (λ own.
-            subst (λ (a : ℕ). Stands job scan' r.desk (booked a sort ∷ past)) own.1
-            (booked_own theirs sort n folder (is ∙ ap (λ (a : ℕ). Booked theirs a sort n folder) (sym own.1)) own.0
-            (subst (λ (a : ℕ). HearsReply scan (Booked theirs a sort n folder) scan') (sym own.1) told)))
+            subst (λ (a : ℕ). Stands job scan' r.desk (booked a heard.sort ∷ past)) own.1
+            (booked_own heard.job heard.sort heard.size heard.folder (is ∙ ap (λ (a : ℕ). booking heard.job a heard.sort heard.size heard.folder) (sym own.1)) own.0
+            (subst (λ (a : ℕ). HearsReply scan (booking heard.job a heard.sort heard.size heard.folder) scan') (sym own.1) told)))
             (λ h. ⊎_elim
             (λ free.
-            booked_elsewhere theirs address sort n folder is (λ out. absurd (out free)) ((nothing_out_stays scan scan' free).0 theirs address sort n folder told))
-            (λ there. booked_elsewhere theirs address sort n folder is (λ out. there) ((elsewhere_stays scan scan' address there).0 theirs sort n folder told)) h)
-            (where_out scan.out address)
+            booked_elsewhere heard.job heard.address heard.sort heard.size heard.folder is (λ out. absurd (out free)) ((nothing_out_stays scan scan' free).0 heard.job heard.address heard.sort heard.size heard.folder told))
+            (λ there. booked_elsewhere heard.job heard.address heard.sort heard.size heard.folder is (λ out. there) ((elsewhere_stays scan scan' heard.address there).0 heard.job heard.sort heard.size heard.folder told)) h)
+            (where_out scan.out heard.address)
 
   -- a cancel or an expiry
   stands_withdrawn : (address clock : ℕ) (desk' : Desk) (seen' : List Seen) (scan' : Scan) (theirs folder : ℕ) → Night desk' seen'
-      → ClosedAlone desk address (withdrawn_at clock) desk' → HearsClosing scan (Closed theirs address folder) scan' → Stands job scan' desk' (withdrawn address ∷ past)
+      → ClosedAlone desk address (withdrawn_at clock) desk' → HearsClosing scan (closing theirs address folder) scan' → Stands job scan' desk' (withdrawn address ∷ past)
   stands_withdrawn address clock desk' seen' scan' theirs folder night' alone told =
       ⊎_elim own
       (λ h. ⊎_elim
@@ -431,7 +429,7 @@ module _ (job : ℕ) (scan : Scan) (desk : Desk) (past : List Event) (s : Stands
           subst (λ (a : ℕ). Stands job scan' desk' (withdrawn a ∷ past)) o.1
           (closed_own (withdrawn scan.out) desk' seen' night' 0 scan'
           (closed_is_absent scan scan' o.0 (s.follows.left o.0) theirs folder
-          (subst (λ (a : ℕ). HearsClosing scan (Closed theirs a folder) scan') (sym o.1) told))
+          (subst (λ (a : ℕ). HearsClosing scan (closing theirs a folder) scan') (sym o.1) told))
           (withdrawn_0 scan past s.follows o.0))
 
   stands_cancel : (theirs address clock : ℕ) (r : AfterClose) (scan' : Scan) → Cancels desk theirs address clock r → HearsClosing scan r.answer scan'
@@ -439,14 +437,14 @@ module _ (job : ℕ) (scan : Scan) (desk : Desk) (past : List Event) (s : Stands
   stands_cancel theirs address clock r scan' cancelling hears = go r.answer refl hears
     where
       go : (a : Closing) → r.answer ≡ a → HearsClosing scan a scan' → Stands job scan' r.desk (of_closing a ∷ past)
-      go (Closed job' there folder) is told =
+      go (Ok closed) is told =
           let was = cancels_after desk theirs address clock r cancelling in
-          let right = cancelled_right desk theirs address clock r job' there folder cancelling is in
-          stands_withdrawn there clock r.desk (event_of desk (cancels_at theirs address clock) ∷ s.seen) scan' job' folder
+          let right = cancelled_right desk theirs address clock r closed.job closed.address closed.folder cancelling is in
+          stands_withdrawn closed.address clock r.desk (event_of desk (cancels_at theirs address clock) ∷ s.seen) scan' closed.job closed.folder
           (subst (λ (d : Desk). Night d (event_of desk (cancels_at theirs address clock) ∷ s.seen)) (sym was.0) (step desk s.seen s.night (cancels_at theirs address clock)))
           (subst (λ (x : ℕ). ClosedAlone desk x (withdrawn_at clock) r.desk) (sym right.1) right.3)
           told
-      go (NotClosed f) is told =
+      go (Err f) is told =
           rw told (subst (λ (d : Desk). Stands job scan d (nothing ∷ past)) (sym (cancel_refusal_keeps desk theirs address clock r f cancelling is)) stands_nothing)
 
   stands_expire : (clock : ℕ) (r : AfterClose) (scan' : Scan) → Expires desk clock r → HearsClosing scan r.answer scan'
@@ -454,13 +452,13 @@ module _ (job : ℕ) (scan : Scan) (desk : Desk) (past : List Event) (s : Stands
   stands_expire clock r scan' expiring hears = go r.answer refl hears
     where
       go : (a : Closing) → r.answer ≡ a → HearsClosing scan a scan' → Stands job scan' r.desk (of_closing a ∷ past)
-      go (Closed job' there folder) is told =
+      go (Ok closed) is told =
           let was = expires_after desk clock r expiring in
-          stands_withdrawn there clock r.desk (event_of desk (expires_at clock) ∷ s.seen) scan' job' folder
+          stands_withdrawn closed.address clock r.desk (event_of desk (expires_at clock) ∷ s.seen) scan' closed.job closed.folder
           (subst (λ (d : Desk). Night d (event_of desk (expires_at clock) ∷ s.seen)) (sym was.0) (step desk s.seen s.night (expires_at clock)))
-          (expired_right desk clock r job' there folder expiring is).closes
+          (expired_right desk clock r closed.job closed.address closed.folder expiring is).closes
           told
-      go (NotClosed f) is told =
+      go (Err f) is told =
           rw told (subst (λ (d : Desk). Stands job scan d (nothing ∷ past)) (sym (expire_refusal_keeps desk clock r f expiring is)) stands_nothing)
 
 -- ---- any shift

@@ -1,5 +1,7 @@
 -- What the definitions of a shift say, said out. 02, #113.
 -- Assumes nothing.
+use Rattle.desk.specs.Answers.{booking, closing, opening}
+use Rattle.std.specs.Prelude.{Err, Ok}
 use mathlib.Core.Path.{◌≡◌, refl, sym, ap, subst, ◌∙◌}
 use mathlib.Core.Bool.{Bool, true, false}
 use mathlib.Core.List.{List, [], ◌∷◌, ◌++◌}
@@ -17,10 +19,7 @@ use Rattle.desk.specs.Reply.{Replies}
 use Rattle.desk.specs.declared.AfterClose.{AfterClose}
 use Rattle.desk.specs.declared.AfterOpen.{AfterOpen}
 use Rattle.desk.specs.declared.AfterReply.{AfterReply}
-use Rattle.desk.specs.declared.Booking.TheVariants.{Booked, Refused as NotBooked}
-use Rattle.desk.specs.declared.Closing.TheVariants.{Closed, Refused as NotClosed}
 use Rattle.desk.specs.declared.Desk.{Desk}
-use Rattle.desk.specs.declared.Opening.TheVariants.{Opened, Refused as NotOpened}
 use Rattle.nights.specs.Night.{Call, after_all}
 use Rattle.request.specs.declared.Request.{Request}
 use Rattle.scan.proofs.Laws.{step_refusal_keeps, done_stays, absent_exactly, present_exactly}
@@ -29,7 +28,7 @@ use Rattle.scan.specs.declared.AfterStep.{AfterStep}
 use Rattle.scan.specs.declared.Found.{Found}
 use Rattle.scan.specs.declared.Found.TheVariants.{Absent, Present}
 use Rattle.scan.specs.declared.Scan.{Scan}
-use Rattle.scan.specs.declared.Stepping.TheVariants.{Asked, Waiting, Done, Refused}
+use Rattle.scan.specs.declared.Stage.TheVariants.{Asked, Waiting, Done}
 use Rattle.scans.proofs.Laws.{any_shift}
 use Rattle.scans.specs.Shift.{Event, Shift, OutOn, Ends, Became, Ended, Right, Promised, of_step, of_opening, of_booking, of_closing}
 use Rattle.scans.specs.Shift.{asked, opened, booked, withdrawn, nothing}
@@ -65,17 +64,17 @@ shift_only (expires shift clock r scan' c told) = inr (_, _, _, shift, inr (inr 
 
 -- an answer is written down as this event
 pub written_down : (address unit n theirs sort size folder : ℕ)
-    → (of_step (Asked address unit n) ≡ asked unit address)
-    × (of_step (Waiting address) ≡ nothing)
-    × (of_step Done ≡ nothing)
-    × (of_opening (Opened address n) ≡ opened address)
-    × (of_booking (Booked theirs address sort size folder) ≡ booked address sort)
-    × (of_closing (Closed theirs address folder) ≡ withdrawn address)
+    → (of_step (Ok (Asked address unit n)) ≡ asked unit address)
+    × (of_step (Ok (Waiting address)) ≡ nothing)
+    × (of_step (Ok Done) ≡ nothing)
+    × (of_opening (opening address n) ≡ opened address)
+    × (of_booking (booking theirs address sort size folder) ≡ booked address sort)
+    × (of_closing (closing theirs address folder) ≡ withdrawn address)
 written_down address unit n theirs sort size folder = (refl, refl, refl, refl, refl, refl)
 
 by_closing : {job : ℕ} {past : List Event} (r : AfterClose) (scan' : Scan) → Shift job scan' r.desk (of_closing r.answer ∷ past)
-    → ((theirs there folder : ℕ) → r.answer ≡ Closed theirs there folder → Shift job scan' r.desk (withdrawn there ∷ past))
-    × ((f : _) → r.answer ≡ NotClosed f → Shift job scan' r.desk (nothing ∷ past))
+    → ((theirs there folder : ℕ) → r.answer ≡ closing theirs there folder → Shift job scan' r.desk (withdrawn there ∷ past))
+    × ((f : _) → r.answer ≡ Err f → Shift job scan' r.desk (nothing ∷ past))
 by_closing {job} {past} r scan' next = (
   λ theirs there folder e. subst (λ a. Shift job scan' r.desk (of_closing a ∷ past)) e next,
   λ f e. subst (λ a. Shift job scan' r.desk (of_closing a ∷ past)) e next,
@@ -85,10 +84,10 @@ by_closing {job} {past} r scan' next = (
 
 module _ {job : ℕ} {scan : Scan} {desk : Desk} {past : List Event} (shift : Shift job scan desk past) where
   pub goes_on_step : (clock : ℕ) (room : List ℕ) (r : AfterStep) (room' : List ℕ) → Steps scan desk clock room r room'
-      → ((address unit n : ℕ) → r.answer ≡ Asked address unit n → Shift job r.scan r.desk (asked unit address ∷ past))
-      × ((address : ℕ) → r.answer ≡ Waiting address → Shift job r.scan r.desk (nothing ∷ past))
-      × (r.answer ≡ Done → Shift job r.scan r.desk (nothing ∷ past))
-      × ((f : _) → r.answer ≡ Refused f → Shift job r.scan r.desk (nothing ∷ past))
+      → ((address unit n : ℕ) → r.answer ≡ Ok (Asked address unit n) → Shift job r.scan r.desk (asked unit address ∷ past))
+      × ((address : ℕ) → r.answer ≡ Ok (Waiting address) → Shift job r.scan r.desk (nothing ∷ past))
+      × (r.answer ≡ Ok Done → Shift job r.scan r.desk (nothing ∷ past))
+      × ((f : _) → r.answer ≡ Err f → Shift job r.scan r.desk (nothing ∷ past))
   goes_on_step clock room r room' c =
       let next = steps shift clock room r room' c in (
         λ address unit n e. subst (λ a. Shift job r.scan r.desk (of_step a ∷ past)) e next,
@@ -99,8 +98,8 @@ module _ {job : ℕ} {scan : Scan} {desk : Desk} {past : List Event} (shift : Sh
 
   -- anybody's request at the desk
   pub goes_on_open : (what : Request) (bytes : List ℕ) (clock : ℕ) (room : List ℕ) (r : AfterOpen) (room' : List ℕ) → Opens desk what bytes clock room r room'
-      → ((address n : ℕ) → r.answer ≡ Opened address n → Shift job scan r.desk (opened address ∷ past))
-      × ((f : _) → r.answer ≡ NotOpened f → Shift job scan r.desk (nothing ∷ past))
+      → ((address n : ℕ) → r.answer ≡ opening address n → Shift job scan r.desk (opened address ∷ past))
+      × ((f : _) → r.answer ≡ Err f → Shift job scan r.desk (nothing ∷ past))
   goes_on_open what bytes clock room r room' c =
       let next = opens shift what bytes clock room r room' c in (
         λ address n e. subst (λ a. Shift job scan r.desk (of_opening a ∷ past)) e next,
@@ -109,8 +108,8 @@ module _ {job : ℕ} {scan : Scan} {desk : Desk} {past : List Event} (shift : Sh
 
   -- any reply
   pub goes_on_reply : (frame room : List ℕ) (r : AfterReply) (room' : List ℕ) (scan' : Scan) → Replies desk frame room r room' → HearsReply scan r.answer scan'
-      → ((theirs address sort n folder : ℕ) → r.answer ≡ Booked theirs address sort n folder → Shift job scan' r.desk (booked address sort ∷ past))
-      × ((f : _) → r.answer ≡ NotBooked f → Shift job scan' r.desk (nothing ∷ past))
+      → ((theirs address sort n folder : ℕ) → r.answer ≡ booking theirs address sort n folder → Shift job scan' r.desk (booked address sort ∷ past))
+      × ((f : _) → r.answer ≡ Err f → Shift job scan' r.desk (nothing ∷ past))
   goes_on_reply frame room r room' scan' c told =
       let next = replies shift frame room r room' scan' c told in (
         λ theirs address sort n folder e. subst (λ a. Shift job scan' r.desk (of_booking a ∷ past)) e next,
@@ -119,13 +118,13 @@ module _ {job : ℕ} {scan : Scan} {desk : Desk} {past : List Event} (shift : Sh
 
   -- anybody's cancel, and any expiry
   pub goes_on_cancel : (theirs address clock : ℕ) (r : AfterClose) (scan' : Scan) → Cancels desk theirs address clock r → HearsClosing scan r.answer scan'
-      → ((job' there folder : ℕ) → r.answer ≡ Closed job' there folder → Shift job scan' r.desk (withdrawn there ∷ past))
-      × ((f : _) → r.answer ≡ NotClosed f → Shift job scan' r.desk (nothing ∷ past))
+      → ((job' there folder : ℕ) → r.answer ≡ closing job' there folder → Shift job scan' r.desk (withdrawn there ∷ past))
+      × ((f : _) → r.answer ≡ Err f → Shift job scan' r.desk (nothing ∷ past))
   goes_on_cancel theirs address clock r scan' c told = by_closing r scan' (cancels shift theirs address clock r scan' c told)
 
   pub goes_on_expire : (clock : ℕ) (r : AfterClose) (scan' : Scan) → Expires desk clock r → HearsClosing scan r.answer scan'
-      → ((job' there folder : ℕ) → r.answer ≡ Closed job' there folder → Shift job scan' r.desk (withdrawn there ∷ past))
-      × ((f : _) → r.answer ≡ NotClosed f → Shift job scan' r.desk (nothing ∷ past))
+      → ((job' there folder : ℕ) → r.answer ≡ closing job' there folder → Shift job scan' r.desk (withdrawn there ∷ past))
+      × ((f : _) → r.answer ≡ Err f → Shift job scan' r.desk (nothing ∷ past))
   goes_on_expire clock r scan' c told = by_closing r scan' (expires shift clock r scan' c told)
 
 -- ---- what is out under an address: the last to go out there decides, and what happens elsewhere does not
@@ -348,7 +347,7 @@ module _ {job : ℕ} {scan : Scan} {desk : Desk} {past : List Event} (shift : Sh
 
   -- and after 160 of them each step says that it is done, and opens nothing
   pub done_after_160 : Ended past 160 → (clock : ℕ) (room : List ℕ) (r : AfterStep) (room' : List ℕ) → Steps scan desk clock room r room'
-      → (r.answer ≡ Done) × (r.scan ≡ scan) × (r.desk ≡ desk) × (r.count ≡ 0) × (room' ≡ room)
+      → (r.answer ≡ Ok Done) × (r.scan ≡ scan) × (r.desk ≡ desk) × (r.count ≡ 0) × (room' ≡ room)
   done_after_160 all clock room r room' c =
       let same = (turns_are 160 all).0 in done_stays scan desk clock room r room' c (omega (arith, same))
 
@@ -451,7 +450,7 @@ module _ {job : ℕ} {scan : Scan} {desk : Desk} {past : List Event} (shift : Sh
 
   -- "A turn whose opening is refused, whatever the number, is tried again at the next call and isn't one of the 160": nothing changes, and the
   -- shift goes on as it stood
-  pub refused_again : (clock : ℕ) (room : List ℕ) (r : AfterStep) (room' : List ℕ) → Steps scan desk clock room r room' → (f : _) → r.answer ≡ Refused f
+  pub refused_again : (clock : ℕ) (room : List ℕ) (r : AfterStep) (room' : List ℕ) → Steps scan desk clock room r room' → (f : _) → r.answer ≡ Err f
       → (r.scan ≡ scan) × (r.desk ≡ desk) × (room' ≡ room) × ((k : ℕ) → Ended past k ↔ Ended (nothing ∷ past) k)
   unfolding Ended Ends
   refused_again clock room r room' c f e =

@@ -1,12 +1,12 @@
 -- 02, #107's sweep is part of a shift: each ticket that it closed is told to the scan by the list that the sweep filled.
 -- Assumes nothing.
+use Rattle.std.specs.Prelude.{Ok, Err}
 use mathlib.Core.Path.{◌≡◌, refl, sym, ap, subst, ◌∙◌}
 use mathlib.Core.List.{List, [], ◌∷◌}
 use Prim.Native.Nat.{ℕ, zero, suc, ◌*◌}
 use lib.ListN.{take}
 use Rattle.desk.proofs.Laws.{expire_refusal_keeps}
-use Rattle.desk.specs.declared.Closing.{Closing}
-use Rattle.desk.specs.declared.Closing.TheVariants.{Closed, Refused as NotClosed}
+use Rattle.desk.specs.Answers.{Closing, closing}
 use Rattle.desk.specs.declared.Desk.{Desk}
 use Rattle.overdue.proofs.Laws.{expired_is, filled}
 use Rattle.overdue.specs.Overdue.{expired, listed, entries, desk_after, room_in, ExpiresAll}
@@ -18,7 +18,7 @@ use Rattle.scans.specs.Shift.{withdrawn}
 use Rattle.scans.specs.Shift.{expires}
 
 -- each entry of the list is one closing that the scan is told, in the list's order, and one event; what is left of an entry is none
-pub sweep_plainly : (scan scan' : Scan) (job address folder : ℕ) (rest : List ℕ) (past : List Event) → HearsClosing scan (Closed job address folder) scan'
+pub sweep_plainly : (scan scan' : Scan) (job address folder : ℕ) (rest : List ℕ) (past : List Event) → HearsClosing scan (closing job address folder) scan'
     → (told_all scan (job ∷ address ∷ folder ∷ rest) ≡ told_all scan' rest)
     × (swept_all (job ∷ address ∷ folder ∷ rest) past ≡ swept_all rest (withdrawn address ∷ past))
     × (told_all scan [] ≡ scan)
@@ -51,8 +51,8 @@ swept (suc n) {job} {scan} {desk} {past} shift clock =
         (swept_all (entries n (expired desk clock).desk clock) seen))
         → Shift job (told_all scan (listed a (entries n (expired desk clock).desk clock))) (desk_after n (expired desk clock).desk clock)
         (swept_all (listed a (entries n (expired desk clock).desk clock)) past)
-    go (Closed theirs address folder) is then more = more (heard_closing scan (Closed theirs address folder)) (withdrawn address ∷ past) then
-    go (NotClosed f) is then more =
+    go (Ok closed) is then more = more (heard_closing scan (Ok closed)) (withdrawn closed.address ∷ past) then
+    go (Err f) is then more =
         let same = expire_refusal_keeps desk clock (expired desk clock) f (expired_is desk clock) is in
         subst (λ (d : Desk). Shift job scan d past) (sym (ap (λ (d : Desk). desk_after n d clock) same ∙ stays n desk clock same)) shift
 

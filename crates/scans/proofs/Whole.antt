@@ -1,6 +1,7 @@
 -- A scan that comes to its end: each module is asked in turn, and its ticket cancelled; and one whose first module answered. So what is promised
 -- of one that is done, and of a module that answered, is not empty.
 -- Assumes nothing.
+use Rattle.std.specs.Prelude.{Ok, Err}
 use mathlib.Core.Path.{◌≡◌, refl, sym, ap, subst, ◌∙◌}
 use mathlib.Core.Bool.{Bool, true, false, true≢false}
 use mathlib.Core.List.{List, [], ◌∷◌}
@@ -17,23 +18,22 @@ use Rattle.telegram.proofs.Judge.{reading_telegram}
 use Rattle.telegram.proofs.Laws.{fields_written, reads_back, reads_settled, writes_settled}
 use Rattle.telegram.specs.Read.{read_refusal, fields_in}
 use Rattle.telegram.specs.Write.{message_for, telegram_for, fields_for, Writes}
-use Rattle.telegram.specs.declared.Writing.{Writing}
+use Rattle.telegram.specs.Answers.{Writing}
 use Rattle.desk.proofs.Laws.{opened_given, cancelled_right, cancels_settled, replies_settled, empty_place}
 use Rattle.desk.proofs.Ranking.{cancel_plainly}
 use Rattle.desk.specs.Close.{close_told}
 use Rattle.desk.specs.Desk.{fresh_desk, ticket_on}
 use Rattle.desk.specs.Open.{given_place, request_at}
 use Rattle.desk.specs.Reply.{book_refusal, reply_refusal}
-use Rattle.desk.specs.declared.Closing.{Closing}
-use Rattle.desk.specs.declared.Closing.TheVariants.{Closed, Refused as NotClosed}
+use Rattle.desk.specs.Answers.{Closing, closing}
 use Rattle.desk.specs.declared.Desk.{Desk}
 use Rattle.nights.specs.Night.{after_all}
 use Rattle.scan.proofs.Laws.{steps_settled, step_refusals, step_opened, done_exactly, waiting_exactly, closed_is_absent, hears_reply_settled, hears_closing_settled}
 use Rattle.scan.specs.Scan.{Steps, HearsClosing, step_told, fresh_scan, request}
 use Rattle.scan.specs.declared.AfterStep.{AfterStep}
 use Rattle.scan.specs.declared.Scan.{Scan}
-use Rattle.scan.specs.declared.Stepping.{Stepping}
-use Rattle.scan.specs.declared.Stepping.TheVariants.{Asked, Waiting, Done, Refused}
+use Rattle.scan.specs.Answers.{Stepping}
+use Rattle.scan.specs.declared.Stage.TheVariants.{Asked, Waiting, Done}
 use Rattle.ticket.specs.Due.{age}
 use Rattle.ticket.specs.Fit.{fit_refusal, kind_fits}
 use Rattle.ticket.specs.Ticket.{new_ticket, withdrawn_at}
@@ -107,15 +107,15 @@ module _ (job : ℕ) (real : job ≢ 0) (k : ℕ) (few : k < 160) (a : At job k)
         ),
       )
 
-  was_asked : (x : Stepping) → step_told x ≡ none → x ≢ Done → ((y : ℕ) → x ≢ Waiting y) → (address : ℕ) × (unit : ℕ) × (n : ℕ) × (x ≡ Asked address unit n)
-  was_asked (Asked address unit n) told d w = (address, unit, n, refl)
-  was_asked Done told d w = absurd (d refl)
-  was_asked (Waiting y) told d w = absurd (w y refl)
-  was_asked (Refused f) told d w = clash (cc)
+  was_asked : (x : Stepping) → step_told x ≡ none → x ≢ (Ok Done) → ((y : ℕ) → x ≢ Ok (Waiting y)) → (address : ℕ) × (unit : ℕ) × (n : ℕ) × (x ≡ Ok (Asked address unit n))
+  was_asked (Ok (Asked address unit n)) told d w = (address, unit, n, refl)
+  was_asked (Ok Done) told d w = absurd (d refl)
+  was_asked (Ok (Waiting y)) told d w = absurd (w y refl)
+  was_asked (Err f) told d w = clash (cc)
 
-  was_closed : (x : Closing) → close_told x ≡ none → (theirs : ℕ) × (there : ℕ) × (folder : ℕ) × (x ≡ Closed theirs there folder)
-  was_closed (Closed theirs there folder) told = (theirs, there, folder, refl)
-  was_closed (NotClosed f) told = clash (cc)
+  was_closed : (x : Closing) → close_told x ≡ none → (theirs : ℕ) × (there : ℕ) × (folder : ℕ) × (x ≡ closing theirs there folder)
+  was_closed (Ok closed) told = (closed.job, closed.address, closed.folder, refl)
+  was_closed (Err f) told = clash (cc)
 
   -- its ticket is cancelled
   ended : (desk : Desk) (scan : Scan) (past : List Event) (address : ℕ) → Shift job scan desk past → scan.turns ≡ k → scan.out ≡ address → address ≢ 0
@@ -132,7 +132,7 @@ module _ (job : ℕ) (real : job ≢ 0) (k : ℕ) (few : k < 160) (a : At job k)
       let right = cancelled_right desk job address clock c.outcome was.0 was.1 was.2 c.is_allowed_lem was.3 in
       let h = hears_closing_settled scan c.outcome.answer in
       let next = closed_is_absent scan h.outcome (λ zero. some_address (sym out ∙ zero)) (omega (arith, same, few)) was.0 was.2
-      (subst (λ (x : Closing). HearsClosing scan x h.outcome) (was.3 ∙ ap (λ (y : ℕ). Closed was.0 y was.2) (right.1 ∙ sym out)) h.is_allowed_lem) in
+      (subst (λ (x : Closing). HearsClosing scan x h.outcome) (was.3 ∙ ap (λ (y : ℕ). closing was.0 y was.2) (right.1 ∙ sym out)) h.is_allowed_lem) in
       record {
         scan = h.outcome;
         desk = c.outcome.desk;

@@ -1,7 +1,7 @@
 -- Shifts with a scan: any steps of it and any openings, replies, cancels and expiries at the desk, in any order, the scan made at any time of
 -- any night, and every answer of the desk told to the scan, whoever made the call. 02, #113.
 -- Assumes nothing.
-use Rattle.std.specs.Prelude.{◌≡◌, List, [], ◌∷◌, ◌++◌, ◌≢◌, ◌⊎◌, ◌↔◌, ℕ, ◌+◌, ◌-◌, ◌≤◌, get_or}
+use Rattle.std.specs.Prelude.{◌≡◌, List, [], ◌∷◌, ◌++◌, ◌≢◌, ◌⊎◌, ◌↔◌, ℕ, ◌+◌, ◌-◌, ◌≤◌, get_or, Ok, Err}
 use Rattle.desk.specs.Close.{Cancels, Expires}
 use Rattle.desk.specs.Desk.{fresh_desk, ticket_on}
 use Rattle.desk.specs.Open.{Opens}
@@ -9,20 +9,17 @@ use Rattle.desk.specs.Reply.{Replies}
 use Rattle.desk.specs.declared.AfterClose.{AfterClose}
 use Rattle.desk.specs.declared.AfterOpen.{AfterOpen}
 use Rattle.desk.specs.declared.AfterReply.{AfterReply}
-use Rattle.desk.specs.declared.Booking.{Booking}
-use Rattle.desk.specs.declared.Booking.TheVariants.{Booked, Refused as NotBooked}
-use Rattle.desk.specs.declared.Closing.{Closing}
-use Rattle.desk.specs.declared.Closing.TheVariants.{Closed, Refused as NotClosed}
+use Rattle.desk.specs.Answers.{Booking, closing}
+use Rattle.desk.specs.Answers.{Closing}
 use Rattle.desk.specs.declared.Desk.{Desk}
-use Rattle.desk.specs.declared.Opening.{Opening}
-use Rattle.desk.specs.declared.Opening.TheVariants.{Opened, Refused as NotOpened}
+use Rattle.desk.specs.Answers.{Opening}
 use Rattle.nights.specs.Night.{Call, after_all}
 use Rattle.request.specs.declared.Request.{Request}
 use Rattle.scan.specs.Scan.{fresh_scan, heard_closing, Steps, HearsReply, HearsClosing}
 use Rattle.scan.specs.declared.AfterStep.{AfterStep}
 use Rattle.scan.specs.declared.Scan.{Scan}
-use Rattle.scan.specs.declared.Stepping.{Stepping}
-use Rattle.scan.specs.declared.Stepping.TheVariants.{Asked, Waiting, Done, Refused}
+use Rattle.scan.specs.Answers.{Stepping}
+use Rattle.scan.specs.declared.Stage.TheVariants.{Asked, Waiting, Done}
 use Rattle.ticket.specs.Ticket.{new_ticket}
 
 -- ---- what was answered since the scan was made
@@ -37,22 +34,22 @@ pub data Event : Type 0 where
   nothing : Event
 
 abbrev pub of_step : Stepping → Event
-of_step (Asked address unit n) = asked unit address
-of_step (Waiting address) = nothing
-of_step Done = nothing
-of_step (Refused f) = nothing
+of_step (Ok (Asked address unit n)) = asked unit address
+of_step (Ok (Waiting address)) = nothing
+of_step (Ok Done) = nothing
+of_step (Err f) = nothing
 
 abbrev pub of_opening : Opening → Event
-of_opening (Opened address n) = opened address
-of_opening (NotOpened f) = nothing
+of_opening (Ok told) = opened told.address
+of_opening (Err f) = nothing
 
 abbrev pub of_booking : Booking → Event
-of_booking (Booked job address sort n folder) = booked address sort
-of_booking (NotBooked f) = nothing
+of_booking (Ok told) = booked told.address told.sort
+of_booking (Err f) = nothing
 
 abbrev pub of_closing : Closing → Event
-of_closing (Closed job address folder) = withdrawn address
-of_closing (NotClosed f) = nothing
+of_closing (Ok closed) = withdrawn closed.address
+of_closing (Err f) = nothing
 
 -- the scan, the desk and all that was answered, the latest first, after any calls as their contracts allow them
 pub data Shift (job : ℕ) : Scan → Desk → List Event → Type 0 where
@@ -81,7 +78,7 @@ pub data Shift (job : ℕ) : Scan → Desk → List Event → Type 0 where
 -- 02, #107's sweep: its list has job, address and folder of each ticket that it closed, and each is told to the scan, in that order
 
 unfoldable pub told_all : Scan → List ℕ → Scan
-told_all scan (job ∷ address ∷ folder ∷ rest) = told_all (heard_closing scan (Closed job address folder)) rest
+told_all scan (job ∷ address ∷ folder ∷ rest) = told_all (heard_closing scan (closing job address folder)) rest
 told_all scan (job ∷ address ∷ []) = scan
 told_all scan (job ∷ []) = scan
 told_all scan [] = scan

@@ -1,6 +1,7 @@
 -- What is promised of checking and reading a sheet: the laws that callers may cite. Right.antt and Written.antt say what the check is
 -- worth: a right sheet is the sheet of the settings that it holds, and each sheet that is written is right and holds what was written.
 -- Assumes nothing.
+use Rattle.std.specs.Prelude.{Ok, Err}
 use mathlib.Core.Path.{◌≡◌, refl, sym, ap, subst, ◌∙◌}
 use mathlib.Core.List.{List, [], ◌∷◌, ◌++◌}
 use mathlib.Core.Logic.{◌≢◌, ◌↔◌}
@@ -23,11 +24,9 @@ use Rattle.setting.specs.Setting.{Setting, length_of, heads, fault_number}
 use Rattle.sheet.specs.Sheet.{sheet_of, named, valued, Writable, version_in, count_in, records_in, held, HasNot, IsNarrow, check_rows, Right}
 use Rattle.sheet.specs.Sheet.{read_rows, read_tests, check_refusal, read_refusal, check_answer, check_told, record_as, read_answer, read_told, value_at}
 use Rattle.sheet.specs.Sheet.{room_after, Checks, Reads}
-use Rattle.sheet.specs.declared.Checked.{Checked}
-use Rattle.sheet.specs.declared.Checked.TheVariants as checked
+use Rattle.sheet.specs.Answers.{Checked}
 use Rattle.sheet.specs.declared.Record.{Record}
-use Rattle.sheet.specs.declared.Reading.{Reading}
-use Rattle.sheet.specs.declared.Reading.TheVariants as reading
+use Rattle.sheet.specs.Answers.{Reading}
 use Rattle.sheet.specs.Promised.{Whole, Answered}
 use Rattle.sheet.proofs.Right.{whole, check_ranked, sheet_of_held}
 use Rattle.sheet.proofs.Written.{held_named, held_valued, value_sized, held_long, held_writable, sheet_right}
@@ -67,10 +66,10 @@ read_exactly sheet index room r room' p =
 -- ---- what an answer tells
 
 -- a sheet that is checked without a refusal is right, and so many settings it holds
-pub checked_right : (sheet : List ℕ) (n : ℕ) → Checks sheet (checked.Right n) → Right sheet × (n ≡ length (held sheet))
+pub checked_right : (sheet : List ℕ) (n : ℕ) → Checks sheet (Ok n) → Right sheet × (n ≡ length (held sheet))
 checked_right sheet n p = by (check_refusal sheet) refl p
   where
-    by : (o : Option Fault) → check_refusal sheet ≡ o → checked.Right n ≡ check_answer o (count_in sheet) → Right sheet × (n ≡ length (held sheet))
+    by : (o : Option Fault) → check_refusal sheet ≡ o → Ok n ≡ check_answer o (count_in sheet) → Right sheet × (n ≡ length (held sheet))
     by none e q = let m : n ≡ count_in sheet = cc in ((done_exactly (check_rows sheet) (check_refusal sheet) (check_ranked sheet)).0 e, m ∙ sym (held_long sheet))
     by (some f) e q = clash cc
 
@@ -103,12 +102,12 @@ answered sheet index room e =
       bytes = rw value (over_is (value_at sheet index) room (rw size no.2));
     }
 
-pub read_answered : (sheet : List ℕ) (index : ℕ) (room : List ℕ) (r : Record) (room' : List ℕ) → Reads sheet index room (reading.Is r) room'
+pub read_answered : (sheet : List ℕ) (index : ℕ) (room : List ℕ) (r : Record) (room' : List ℕ) → Reads sheet index room (Ok r) room'
     → Answered sheet index room r room'
 read_answered sheet index room r room' p = by (read_refusal sheet index room) refl p
   where
     by : (o : Option Fault) → read_refusal sheet index room ≡ o
-        → (reading.Is r ≡ read_answer o (heads (records_in sheet) index)) × (room' ≡ room_after o (value_at sheet index) room) → Answered sheet index room r room'
+        → (Ok r ≡ read_answer o (heads (records_in sheet) index)) × (room' ≡ room_after o (value_at sheet index) room) → Answered sheet index room r room'
     by (some f) e q = clash cc
     by none e q =
         let is : r ≡ record_as (heads (records_in sheet) index) = cc in
@@ -116,10 +115,10 @@ read_answered sheet index room r room' p = by (read_refusal sheet index room) re
 
 -- ---- "A refusal changes no byte of a buffer we lent", and of a version other than 1 nothing is shown
 
-pub read_refusal_keeps : (sheet : List ℕ) (index : ℕ) (room : List ℕ) (f : Fault) (room' : List ℕ) → Reads sheet index room (reading.Refused f) room' → room' ≡ room
+pub read_refusal_keeps : (sheet : List ℕ) (index : ℕ) (room : List ℕ) (f : Fault) (room' : List ℕ) → Reads sheet index room (Err f) room' → room' ≡ room
 read_refusal_keeps sheet index room f room' p = by (read_refusal sheet index room) p
   where
-    by : (o : Option Fault) → (reading.Refused f ≡ read_answer o (heads (records_in sheet) index)) × (room' ≡ room_after o (value_at sheet index) room) → room' ≡ room
+    by : (o : Option Fault) → (Err f ≡ read_answer o (heads (records_in sheet) index)) × (room' ≡ room_after o (value_at sheet index) room) → room' ≡ room
     by (some g) q = q.1
     by none q = clash cc
 
@@ -148,7 +147,7 @@ other_version_checked sheet r long n p = ap check_told (rw (other_refused sheet 
 -- and the other way round: of a right sheet each record is answered where there is room for its value
 pub read_of : (sheet : List ℕ) (index : ℕ) (room : List ℕ) (r : Reading) (room' : List ℕ) → Right sheet → index < length (held sheet)
     → length (valued (held sheet) index) ≤ length room → Reads sheet index room r room'
-    → (r ≡ reading.Is (record { head = named (held sheet) index; size = length (valued (held sheet) index) }))
+    → (r ≡ Ok (record { head = named (held sheet) index; size = length (valued (held sheet) index) }))
     × (room' ≡ valued (held sheet) index ++ drop (length (valued (held sheet) index)) room)
 read_of sheet index room r room' right h wide p =
     rw (held_named sheet w.header index l, value, size) (q.0, q.1 ∙ (over_is (value_at sheet index) room fits ∙ rw size))
@@ -168,7 +167,7 @@ read_of sheet index room r room' right h wide p =
     fits : length (value_at sheet index) ≤ length room
     fits = rw value at wide
 
-    q : (r ≡ reading.Is (record_as (heads (records_in sheet) index))) × (room' ≡ over (value_at sheet index) room)
+    q : (r ≡ Ok (record_as (heads (records_in sheet) index))) × (room' ≡ over (value_at sheet index) room)
     q = rw (none_refuses sheet index room right l (rw size at fits)) at p
 
 -- ---- the right sheets are the sheets of the settings that can be written, and no others

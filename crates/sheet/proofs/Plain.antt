@@ -1,5 +1,6 @@
 -- The definitions of sheets said in other words.
 -- Assumes nothing.
+use Rattle.std.specs.Prelude.{Ok, Err}
 use mathlib.Core.Path.{◌≡◌, refl, sym, ap}
 use mathlib.Core.List.{List, ◌∷◌}
 use mathlib.Core.Logic.{◌≢◌, ◌⊎◌, ◌↔◌}
@@ -12,9 +13,7 @@ use Rattle.setting.specs.declared.Fault.{Fault}
 use Rattle.setting.specs.Setting.{Setting, length_of, lengths_to, Allowed, Falls, Unfit, heads, tails, settings_in, Numbers}
 use Rattle.sheet.specs.Sheet.{named, valued, field_at, version_in, count_in, records_at, values_at, records_in, values_in, held, IsShort, IsOther}
 use Rattle.sheet.specs.Sheet.{IsWrongHeader, HasFall, HasUnfit, Misplaced, HasMisplaced, HasNot, IsNarrow, check_told, read_told}
-use Rattle.sheet.specs.declared.Checked.TheVariants as checked
 use Rattle.sheet.specs.declared.Record.{Record}
-use Rattle.sheet.specs.declared.Reading.TheVariants as reading
 
 -- the setting at a place of a list
 pub at_plainly : (s : Setting) (rest : List Setting) (k : ℕ)
@@ -59,6 +58,6 @@ read_rows_plainly sheet index room = ((λ p. p, λ p. p), (λ p. p, λ p. p))
 
 -- what an answer tells is the number of its fault
 pub told_number : (f : Fault) (k : ℕ) (r : Record) (n : ℕ) → Numbers f k
-    → ((check_told (checked.Refused f) ≡ some k) × (check_told (checked.Right n) ≡ none))
-    × ((read_told (reading.Refused f) ≡ some k) × (read_told (reading.Is r) ≡ none))
+    → ((check_told (Err f) ≡ some k) × (check_told (Ok n) ≡ none))
+    × ((read_told (Err f) ≡ some k) × (read_told (Ok r) ≡ none))
 told_number f k r n p = ((ap some (sym p), refl), (ap some (sym p), refl))

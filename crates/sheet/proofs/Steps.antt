@@ -1,5 +1,6 @@
 -- What the code's steps need.
 -- Assumes nothing.
+use Rattle.std.specs.Prelude.{Ok, Err}
 use mathlib.Core.Path.{◌≡◌, refl, sym, ap, ap₂, ◌∙◌}
 use mathlib.Core.Bool.{Bool, true, false, not, cond}
 use mathlib.Core.List.{List}
@@ -26,10 +27,8 @@ use Rattle.setting.proofs.Laws.{rows_whole}
 use Rattle.setting.proofs.Steps.{some_found, nothing_found, some_at, some-none}
 use Rattle.sheet.specs.Sheet.{field_at, version_in, count_in, records_at, values_at, records_in, values_in, misplaced, is_wrong_header}
 use Rattle.sheet.specs.Sheet.{is_misplaced, check_refusal, check_answer, read_refusal, value_at, Checks, ChecksRecords, Reads, Shows, record_tests}
-use Rattle.sheet.specs.declared.Checked.{Checked}
-use Rattle.sheet.specs.declared.Checked.TheVariants as checked
-use Rattle.sheet.specs.declared.Reading.{Reading}
-use Rattle.sheet.specs.declared.Reading.TheVariants as reading
+use Rattle.sheet.specs.Answers.{Checked}
+use Rattle.sheet.specs.Answers.{Reading}
 use Rattle.sheet.specs.Promised.{Headed, Whole}
 use Rattle.sheet.proofs.Right.{headed, decides_header, whole, check_ranked, records_long, values_long}
 use Rattle.sheet.proofs.Written.{value_long}
@@ -71,16 +70,16 @@ header_right sheet e f = let h : Headed sheet = headed sheet ((decides_header sh
 
 -- ---- the whole check, row by row
 
-pub check_short : (sheet : List ℕ) → length sheet < 12 → Checks sheet (checked.Refused ShortSheet)
+pub check_short : (sheet : List ℕ) → length sheet < 12 → Checks sheet (Err ShortSheet)
 unfolding check_refusal
 check_short sheet h = rw (lt-ltb (length sheet) 12 h)
 
-pub check_other : (sheet : List ℕ) (v : ℕ) → 12 ≤ length sheet → v ≡ field_at 0 2 sheet → v ≢ 1 → Checks sheet (checked.Refused OtherVersion)
+pub check_other : (sheet : List ℕ) (v : ℕ) → 12 ≤ length sheet → v ≡ field_at 0 2 sheet → v ≢ 1 → Checks sheet (Err OtherVersion)
 unfolding check_refusal version_in
 check_other sheet v h e w = rw (le-ltb (length sheet) 12 h, ← e, ne_eqb v 1 w)
 
 pub check_header : (sheet : List ℕ) (v : ℕ) {t : Bool} → 12 ≤ length sheet → v ≡ field_at 0 2 sheet → v ≡ 1 → t ≡ is_wrong_header sheet → t ≡ true
-    → Checks sheet (checked.Refused WrongHeader)
+    → Checks sheet (Err WrongHeader)
 unfolding check_refusal version_in
 check_header sheet v h e w f g = rw (le-ltb (length sheet) 12 h, ← e, eq-eqb v 1 w, ← f, g)
 
@@ -90,11 +89,11 @@ unfolding check_refusal version_in
 check_rest sheet v h e w f g p = rw (le-ltb (length sheet) 12 h, ← e, eq-eqb v 1 w, ← f, g) p
 
 -- what its answer tells of the refusal
-pub checked_refused : (o : Option Fault) (n : ℕ) (f : Fault) → checked.Refused f ≡ check_answer o n → o ≡ some f
+pub checked_refused : (o : Option Fault) (n : ℕ) (f : Fault) → Err f ≡ check_answer o n → o ≡ some f
 checked_refused none n f e = cc
 checked_refused (some g) n f e = cc
 
-pub right_told : (o : Option Fault) (n m : ℕ) → checked.Right m ≡ check_answer o n → (o ≡ none) × (m ≡ n)
+pub right_told : (o : Option Fault) (n m : ℕ) → Ok m ≡ check_answer o n → (o ≡ none) × (m ≡ n)
 right_told none n m e = (refl, cc)
 right_told (some g) n m e = clash cc
 
@@ -183,11 +182,11 @@ value_within sheet n index size tail e c l p q t =
     let placed : tail ≡ tails (records_in sheet) index = rw (rows_are sheet n c) at t in
     omega (arith, there, placed, c, value_long sheet w index (rw c at l), values_long sheet w, w.ends)
 
-pub shown_beyond : (sheet room : List ℕ) (n index : ℕ) → n ≡ count_in sheet → n ≤ index → Shows sheet index room (reading.Refused NoSuchRecord) room
+pub shown_beyond : (sheet room : List ℕ) (n index : ℕ) → n ≡ count_in sheet → n ≤ index → Shows sheet index room (Err NoSuchRecord) room
 shown_beyond sheet room n index e h = rw (le-leb (count_in sheet) index (rw e at h)) (refl, refl)
 
 pub shown_narrow : (sheet room : List ℕ) (n index size : ℕ) {h : Head} → n ≡ count_in sheet → index < n
-    → h ≡ heads (take (12 + 8 * n - 12) (drop 12 sheet)) index → size ≡ length_of h → length room < size → Shows sheet index room (reading.Refused NoRoom) room
+    → h ≡ heads (take (12 + 8 * n - 12) (drop 12 sheet)) index → size ≡ length_of h → length room < size → Shows sheet index room (Err NoRoom) room
 shown_narrow sheet room n index size e l p q short =
     let there : length_of (heads (records_in sheet) index) ≡ size = sym (q ∙ ap length_of (rw (rows_are sheet n e) at p)) in
     rw (lt-leb (count_in sheet) index (rw e at l), there, lt-ltb (length room) size short) (refl, refl)
@@ -196,7 +195,7 @@ pub shown : (sheet room room' : List ℕ) (n index size tail from to : ℕ) (h :
     → h ≡ heads (take (12 + 8 * n - 12) (drop 12 sheet)) index → size ≡ length_of h → size ≤ length room
     → tail ≡ tails (take (12 + 8 * n - 12) (drop 12 sheet)) index → from ≡ 12 + 8 * n + tail → to ≡ from + size
     → room' ≡ over_at 0 (take (to - from) (drop from sheet)) room
-    → Shows sheet index room (reading.Is (record { head = h; size = size })) room'
+    → Shows sheet index room (Ok (record { head = h; size = size })) room'
 unfolding value_at values_in
 shown sheet room room' n index size tail from to h e l p q wide t f g laid =
     let named : h ≡ heads (records_in sheet) index = rw (rows_are sheet n e) at p in
@@ -207,12 +206,12 @@ shown sheet room room' n index size tail from to h e l p q wide t f g laid =
     let value : take (to - from) (drop from sheet) ≡ take (length_of (heads (records_in sheet) index)) (drop (tails (records_in sheet) index) (drop (12 + 8 * count_in sheet) sheet)) =
     rw (many, start, placed, ← there) (ap (take size) (sym (drop-drop (tails (records_in sheet) index) (12 + 8 * count_in sheet) sheet))) in
     rw (lt-leb (count_in sheet) index (rw e at l), ← there, le-ltb (length room) size wide) (
-      ap₂ (λ (a : Head) (b : ℕ). reading.Is (record { head = a; size = b })) named there,
+      ap₂ (λ (a : Head) (b : ℕ). Ok (record { head = a; size = b })) named there,
       laid ∙ (over_at_zero (take (to - from) (drop from sheet)) room ∙ ap (λ (v : List ℕ). over v room) (rw (← there) at value)),
     )
 
 -- and reading is showing, where the sheet is right
-pub read-refused : (sheet room : List ℕ) (index : ℕ) (f : Fault) → check_refusal sheet ≡ some f → Reads sheet index room (reading.Refused f) room
+pub read-refused : (sheet room : List ℕ) (index : ℕ) (f : Fault) → check_refusal sheet ≡ some f → Reads sheet index room (Err f) room
 unfolding read_refusal
 read-refused sheet room index f e = rw e (refl, refl)
 

@@ -1,6 +1,6 @@
 -- Settings sheets: the sheet of a list of settings, what a right sheet is, and what checking and reading one answers.
 -- Assumes nothing.
-use Rattle.std.specs.Prelude.{◌≡◌, Bool, not, ◌||◌, List, [], ◌∷◌, ◌++◌, ◌⊎◌, ◌≢◌, ℕ, suc, ◌+◌, ◌*◌, ◌≤◌, ◌<◌, eqb, leb, ltb, length, get_or, take, drop}
+use Rattle.std.specs.Prelude.{◌≡◌, Bool, not, ◌||◌, List, [], ◌∷◌, ◌++◌, ◌⊎◌, ◌≢◌, ℕ, suc, ◌+◌, ◌*◌, ◌≤◌, ◌<◌, eqb, leb, ltb, length, get_or, take, drop, Ok, Err}
 use Rattle.std.proofs.Math.Option.{Option, some, none}
 use Rattle.lent.specs.Lent.{over}
 use Rattle.rows.specs.Rows.{Row, row, NoRow, Test, test, first_row_of, or_later}
@@ -9,11 +9,9 @@ use Rattle.setting.specs.declared.Head.{Head}
 use Rattle.setting.specs.Setting.{head, Setting, setting, length_of, lengths_to, Above, Allowed, Some, Falls, Unfit, heads, tails, settings_in, falls, unfit, some_of, fault_number}
 use Rattle.setting.specs.declared.Fault.{Fault}
 use Rattle.setting.specs.declared.Fault.TheVariants.{ShortSheet, OtherVersion, WrongHeader, OutOfOrder, NotAllowed, WrongPlaces, NoSuchRecord, NoRoom}
-use Rattle.sheet.specs.declared.Checked.{Checked}
-use Rattle.sheet.specs.declared.Checked.TheVariants as checked
+use Rattle.sheet.specs.Answers.{Checked}
 use Rattle.sheet.specs.declared.Record.{Record}
-use Rattle.sheet.specs.declared.Reading.{Reading}
-use Rattle.sheet.specs.declared.Reading.TheVariants as reading
+use Rattle.sheet.specs.Answers.{Reading}
 
 -- ---- the sheet of a list of settings
 
@@ -186,24 +184,24 @@ read_refusal sheet index room = or_later (check_refusal sheet) (first_row_of (re
 -- ---- the answers
 
 abbrev pub check_answer : Option Fault → ℕ → Checked
-check_answer (some f) count = checked.Refused f
-check_answer none count = checked.Right count
+check_answer (some f) count = Err f
+check_answer none count = Ok count
 
 abbrev pub check_told : Checked → Option ℕ
-check_told (checked.Refused f) = some (fault_number f)
-check_told (checked.Right count) = none
+check_told (Err f) = some (fault_number f)
+check_told (Ok count) = none
 
 -- module, register, kind, element count, and the value's length
 abbrev pub record_as : Head → Record
 record_as h = record { head = h; size = length_of h }
 
 abbrev pub read_answer : Option Fault → Head → Reading
-read_answer (some f) h = reading.Refused f
-read_answer none h = reading.Is (record_as h)
+read_answer (some f) h = Err f
+read_answer none h = Ok (record_as h)
 
 abbrev pub read_told : Reading → Option ℕ
-read_told (reading.Refused f) = some (fault_number f)
-read_told (reading.Is r) = none
+read_told (Err f) = some (fault_number f)
+read_told (Ok r) = none
 
 -- the value that a record says: so many bytes from its offset on in the value area
 unfoldable pub value_at : List ℕ → ℕ → List ℕ

@@ -14,13 +14,6 @@ pub const HEADER: usize = 12;
 // The only version there is.
 const VERSION: usize = 1;
 
-// How many records a right sheet has.
-#[derive(Clone, Copy)]
-pub enum Checked {
-    Right(usize),
-    Refused(Fault),
-}
-
 // What a record names, and how many bytes its value has.
 #[derive(Clone, Copy)]
 pub struct Record {
@@ -28,24 +21,18 @@ pub struct Record {
     pub size: usize,
 }
 
-#[derive(Clone, Copy)]
-pub enum Reading {
-    Is(Record),
-    Refused(Fault),
-}
-
 // Checks a whole sheet and answers how many records it has.
-pub fn check(sheet: &[u8]) -> Checked
+pub fn check(sheet: &[u8]) -> Result<usize, Fault>
     ensures { Checks sheet.now result }
 {
     if sheet.len() < HEADER {
-        return Checked::Refused(Fault::ShortSheet);
+        return Err(Fault::ShortSheet);
     }
     if field(sheet, 0, 2) != VERSION {
-        return Checked::Refused(Fault::OtherVersion);
+        return Err(Fault::OtherVersion);
     }
     if is_wrong_header(sheet) {
-        return Checked::Refused(Fault::WrongHeader);
+        return Err(Fault::WrongHeader);
     }
     check_records(sheet)
 }
@@ -79,7 +66,7 @@ fn is_wrong_header(sheet: &[u8]) -> bool
 }
 
 // The records of a sheet whose header is right.
-fn check_records(sheet: &[u8]) -> Checked
+fn check_records(sheet: &[u8]) -> Result<usize, Fault>
     requires { (count_in sheet.now ≤ 128) × (12 + 8 * count_in sheet.now ≤ length sheet.now) }
     ensures { ChecksRecords sheet.now result }
 {
@@ -89,15 +76,15 @@ fn check_records(sheet: &[u8]) -> Checked
     let fall = setting::first_fall(rows);
     let unfit = setting::first_unfit(rows);
     if fall < n {
-        return Checked::Refused(Fault::OutOfOrder);
+        return Err(Fault::OutOfOrder);
     }
     if unfit < n {
-        return Checked::Refused(Fault::NotAllowed);
+        return Err(Fault::NotAllowed);
     }
     if is_misplaced(rows, sheet.len() - end) {
-        return Checked::Refused(Fault::WrongPlaces);
+        return Err(Fault::WrongPlaces);
     }
-    Checked::Right(n)
+    Ok(n)
 }
 
 // Whether a value does not begin where the one before it ends, or the last does not end the `size`
@@ -119,34 +106,32 @@ fn is_misplaced(rows: &[u8], size: usize) -> bool
 
 // Answers the record at an index, from 0 on, with its value in the room's first bytes. The rest of
 // the room stays, and a refusal leaves all of it.
-pub fn read(sheet: &[u8], index: usize, room: &mut [u8]) -> Reading
+pub fn read(sheet: &[u8], index: usize, room: &mut [u8]) -> Result<Record, Fault>
     ensures { Reads sheet.now index room.old result room.new }
 {
-    match check(sheet) {
-        Checked::Refused(fault) => Reading::Refused(fault),
-        Checked::Right(n) => show(sheet, n, index, room),
-    }
+    let n = check(sheet)?;
+    show(sheet, n, index, room)
 }
 
 // The same of a right sheet with n records.
-fn show(sheet: &[u8], n: usize, index: usize, room: &mut [u8]) -> Reading
+fn show(sheet: &[u8], n: usize, index: usize, room: &mut [u8]) -> Result<Record, Fault>
     requires { (check_refusal sheet.now ≡ none) × (n ≡ count_in sheet.now) }
     ensures { Shows sheet.now index room.old result room.new }
 {
     if n <= index {
-        return Reading::Refused(Fault::NoSuchRecord);
+        return Err(Fault::NoSuchRecord);
     }
     let end = HEADER + ROW * n;
     let rows = &sheet[HEADER..end];
     let head = setting::head_at(rows, index);
     let size = setting::measure(head);
     if room.len() < size {
-        return Reading::Refused(Fault::NoRoom);
+        return Err(Fault::NoRoom);
     }
     let from = end + setting::tail_at(rows, index);
     let to = from + size;
     lent::lay_at(&sheet[from..to], room, 0);
-    Reading::Is(Record {
+    Ok(Record {
         head: head,
         size: size,
     })

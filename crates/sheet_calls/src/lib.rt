@@ -2,10 +2,8 @@
 // A part of the test tool `rehearsal`.
 #![tactic(auto)]
 
-use setting::{Head, ROW};
-use sheet::{Checked, Reading};
-use sheet_editor::Editing;
-use sheet_writer::Writing;
+use setting::{Fault, Head, ROW};
+use sheet::Record;
 use words::{Words, byte, count};
 
 // The most settings that a line may name: more than a sheet holds, so that 79 can be seen.
@@ -60,10 +58,10 @@ fn write_now(rows: &[u8], values: &[u8], room: &mut [u8], out: &mut [u8]) -> usi
     answers::buffer(out, at, room)
 }
 
-fn written(answer: Writing, out: &mut [u8]) -> usize {
+fn written(answer: Result<usize, Fault>, out: &mut [u8]) -> usize {
     match answer {
-        Writing::Refused(fault) => answers::refused(out, setting::number(fault)),
-        Writing::Written(n) => answers::form(out, b"ok n=#", &[n as u64]),
+        Err(fault) => answers::refused(out, setting::number(fault)),
+        Ok(n) => answers::form(out, b"ok n=#", &[n as u64]),
     }
 }
 
@@ -166,10 +164,10 @@ fn check(w: Words, line: &[u8], out: &mut [u8]) -> usize {
     answers::bad_line(out)
 }
 
-fn checked(answer: Checked, out: &mut [u8]) -> usize {
+fn checked(answer: Result<usize, Fault>, out: &mut [u8]) -> usize {
     match answer {
-        Checked::Refused(fault) => answers::refused(out, setting::number(fault)),
-        Checked::Right(n) => answers::form(out, b"ok count=#", &[n as u64]),
+        Err(fault) => answers::refused(out, setting::number(fault)),
+        Ok(n) => answers::form(out, b"ok count=#", &[n as u64]),
     }
 }
 
@@ -198,10 +196,10 @@ fn read_now(space: &[u8], index: usize, room: &mut [u8], out: &mut [u8]) -> usiz
     answers::buffer(out, at, room)
 }
 
-fn was_read(answer: Reading, out: &mut [u8]) -> usize {
+fn was_read(answer: Result<Record, Fault>, out: &mut [u8]) -> usize {
     match answer {
-        Reading::Refused(fault) => answers::refused(out, setting::number(fault)),
-        Reading::Is(record) => {
+        Err(fault) => answers::refused(out, setting::number(fault)),
+        Ok(record) => {
             let head = record.head;
             answers::form(
                 out,
@@ -237,10 +235,10 @@ fn remove_now(room: &mut [u8], size: usize, index: usize, out: &mut [u8]) -> usi
     answers::buffer(out, at, room)
 }
 
-fn edited(answer: Editing, out: &mut [u8]) -> usize {
+fn edited(answer: Result<usize, sheet_editor::Fault>, out: &mut [u8]) -> usize {
     match answer {
-        Editing::Refused(fault) => answers::refused(out, sheet_editor::number(fault)),
-        Editing::Edited(n) => answers::form(out, b"ok n=#", &[n as u64]),
+        Err(fault) => answers::refused(out, sheet_editor::number(fault)),
+        Ok(n) => answers::form(out, b"ok n=#", &[n as u64]),
     }
 }
 

@@ -1,5 +1,6 @@
 -- What callers may cite of throwing settings out of a sheet and of adding one. 02, #114.
 -- Assumes nothing.
+use Rattle.std.specs.Prelude.{Ok, Err}
 use mathlib.Core.Path.{◌≡◌, refl, sym, ap, subst, ◌∙◌}
 use mathlib.Core.Bool.{Bool, true, false}
 use mathlib.Core.List.{List, [], ◌∷◌, ◌++◌}
@@ -29,8 +30,7 @@ use Rattle.sheet_editor.specs.Editor.{without, others, among, IsOverstated, shee
 use Rattle.sheet_editor.specs.Editor.{sheet_refusal, has_none_of, is_unfit, is_there, remove_tests, module_tests, add_tests, remove_refusal, module_refusal, add_refusal}
 use Rattle.sheet_editor.specs.Editor.{fault_number, edit_told, edit_answer, Edits, Removes, RemovesModule, Adds, Numbers}
 use Rattle.sheet_editor.specs.Promised.{Kept}
-use Rattle.sheet_editor.specs.declared.Editing.{Editing}
-use Rattle.sheet_editor.specs.declared.Editing.TheVariants.{Edited, Refused}
+use Rattle.sheet_editor.specs.Answers.{Editing}
 use Rattle.sheet_editor.specs.declared.Fault.{Fault}
 use Rattle.sheet_editor.specs.declared.Fault.TheVariants.{Overstated, WrongSheet, NothingThere, NotAllowed, AlreadyThere, Full, NoRoom}
 use Rattle.sheet_editor.proofs.Chosen.{there_decided}
@@ -131,37 +131,37 @@ add_exactly room size h value r room' p =
 
 -- which of the two it is, the refusal itself says
 pub add_refused : (room : List ℕ) (size : ℕ) (h : Head) (value : List ℕ) (r : Editing) (room' : List ℕ) → Adds room size h value r room'
-    → (f : Fault) → (r ≡ Refused f) ↔ First (add_rows room size (setting h value)) f
+    → (f : Fault) → (r ≡ Err f) ↔ First (add_rows room size (setting h value)) f
 add_refused room size h value r room' p f =
     let exactly = refused_exactly (add_rows room size (setting h value)) (add_refusal room size (setting h value)) (add_ranked room size (setting h value)) f in (
       λ e. exactly.0 (is_refused_lem (add_refusal room size (setting h value)) _ (sym p.0 ∙ e)),
       λ first. p.0 ∙ ap (λ (o : Option Fault). edit_answer o (length (sheet_of (among (setting h value) (held (take size room)))))) (exactly.1 first),
     )
   where
-    is_refused_lem : (o : Option Fault) (n : ℕ) → edit_answer o n ≡ Refused f → o ≡ some f
+    is_refused_lem : (o : Option Fault) (n : ℕ) → edit_answer o n ≡ Err f → o ≡ some f
     is_refused_lem (some g) n e = cc
     is_refused_lem none n e = clash (cc)
 
 -- ---- "a refusal changes no byte"
 
-keeps : (o : Option Fault) (settings : List Setting) (room : List ℕ) (f : Fault) (room' : List ℕ) → Edits o settings room (Refused f) room' → room' ≡ room
+keeps : (o : Option Fault) (settings : List Setting) (room : List ℕ) (f : Fault) (room' : List ℕ) → Edits o settings room (Err f) room' → room' ≡ room
 keeps (some g) settings room f room' p = p.1
 keeps none settings room f room' p = clash (let e = p.0 in cc)
 
-pub remove_refusal_keeps : (room : List ℕ) (size index : ℕ) (f : Fault) (room' : List ℕ) → Removes room size index (Refused f) room' → room' ≡ room
+pub remove_refusal_keeps : (room : List ℕ) (size index : ℕ) (f : Fault) (room' : List ℕ) → Removes room size index (Err f) room' → room' ≡ room
 remove_refusal_keeps room size index f room' p = keeps (remove_refusal room size index) (without index (held (take size room))) room f room' p
 
-pub module_refusal_keeps : (room : List ℕ) (size unit : ℕ) (f : Fault) (room' : List ℕ) → RemovesModule room size unit (Refused f) room' → room' ≡ room
+pub module_refusal_keeps : (room : List ℕ) (size unit : ℕ) (f : Fault) (room' : List ℕ) → RemovesModule room size unit (Err f) room' → room' ≡ room
 module_refusal_keeps room size unit f room' p = keeps (module_refusal room size unit) (others unit (held (take size room))) room f room' p
 
-pub add_refusal_keeps : (room : List ℕ) (size : ℕ) (h : Head) (value : List ℕ) (f : Fault) (room' : List ℕ) → Adds room size h value (Refused f) room' → room' ≡ room
+pub add_refusal_keeps : (room : List ℕ) (size : ℕ) (h : Head) (value : List ℕ) (f : Fault) (room' : List ℕ) → Adds room size h value (Err f) room' → room' ≡ room
 add_refusal_keeps room size h value f room' p =
     keeps (add_refusal room size (setting h value)) (among (setting h value) (held (take size room))) room f room' p
 
 -- ---- "what is left is byte for byte the sheet that #106 writes for the remaining settings. Bytes of the buffer past the new end stay as they
 -- were." The new sheet is right, and holds the settings of the old one less those removed, or with the new one in its place
 
-done : (o : Option Fault) (settings : List Setting) (room : List ℕ) (n : ℕ) (room' : List ℕ) → Edits o settings room (Edited n) room'
+done : (o : Option Fault) (settings : List Setting) (room : List ℕ) (n : ℕ) (room' : List ℕ) → Edits o settings room (Ok n) room'
     → (o ≡ none) × (n ≡ length (sheet_of settings)) × (room' ≡ over (sheet_of settings) room)
 done (some f) settings room n room' p = clash (let e = p.0 in cc)
 done none settings room n room' p = (refl, (let e = p.0 in cc), p.1)
@@ -200,7 +200,7 @@ old_long room size e =
 -- ---- where nothing refuses, that is what is done
 pub removes_done : (room : List ℕ) (size k : ℕ) (r : Editing) (room' : List ℕ) → size ≤ length room → Right (take size room) → k < length (held (take size room))
     → Removes room size k r room'
-    → (r ≡ Edited (length (sheet_of (without k (held (take size room)))))) × (room' ≡ over (sheet_of (without k (held (take size room)))) room)
+    → (r ≡ Ok (length (sheet_of (without k (held (take size room)))))) × (room' ≡ over (sheet_of (without k (held (take size room)))) room)
 unfolding remove_refusal
 removes_done room size k r room' fits right l p =
     let none_wrong = (done_exactly (check_rows (take size room)) (check_refusal (take size room)) (check_ranked (take size room))).1 right in
@@ -209,7 +209,7 @@ removes_done room size k r room' fits right l p =
 pub adds_done : (room : List ℕ) (size : ℕ) (h : Head) (value : List ℕ) (r : Editing) (room' : List ℕ) → size ≤ length room → Right (take size room)
     → Allowed h → length value ≡ length_of h → (IsThere (held (take size room)) (setting h value) → ⊥) → length (held (take size room)) < 128
     → length (sheet_of (among (setting h value) (held (take size room)))) ≤ length room → Adds room size h value r room'
-    → (r ≡ Edited (length (sheet_of (among (setting h value) (held (take size room)))))) × (room' ≡ over (sheet_of (among (setting h value) (held (take size room)))) room)
+    → (r ≡ Ok (length (sheet_of (among (setting h value) (held (take size room)))))) × (room' ≡ over (sheet_of (among (setting h value) (held (take size room)))) room)
 unfolding add_refusal
 adds_done room size h value r room' fits right allowed exact not_there few wide p =
     let none_wrong = (done_exactly (check_rows (take size room)) (check_refusal (take size room)) (check_ranked (take size room))).1 right in
@@ -225,7 +225,7 @@ adds_done room size h value r room' fits right allowed exact not_there few wide 
 
 pub removes_module_done : (room : List ℕ) (size unit k : ℕ) (r : Editing) (room' : List ℕ) → size ≤ length room → Right (take size room)
     → k < length (held (take size room)) → (named (held (take size room)) k).unit ≡ unit → RemovesModule room size unit r room'
-    → (r ≡ Edited (length (sheet_of (others unit (held (take size room)))))) × (room' ≡ over (sheet_of (others unit (held (take size room)))) room)
+    → (r ≡ Ok (length (sheet_of (others unit (held (take size room)))))) × (room' ≡ over (sheet_of (others unit (held (take size room)))) room)
 unfolding module_refusal
 removes_module_done room size unit k r room' fits right l same p =
     let none_wrong = (done_exactly (check_rows (take size room)) (check_refusal (take size room)) (check_ranked (take size room))).1 right in
@@ -238,16 +238,16 @@ absent settings new apart there = each_at (λ s. SameKey s.named new.named → �
 
 -- the sheet of the old settings, over a room of the same length, is the old sheet
 back_there : (room : List ℕ) (size : ℕ) (room'' room' : List ℕ) (r : Editing) (settings : List Setting) → size ≤ length room → length room' ≡ length room
-    → sheet_of settings ≡ take size room → length (sheet_of settings) ≡ size → r ≡ Edited (length (sheet_of settings)) → room'' ≡ over (sheet_of settings) room'
-    → (r ≡ Edited size) × (take size room'' ≡ take size room)
+    → sheet_of settings ≡ take size room → length (sheet_of settings) ≡ size → r ≡ Ok (length (sheet_of settings)) → room'' ≡ over (sheet_of settings) room'
+    → (r ≡ Ok size) × (take size room'' ≡ take size room)
 back_there room size room'' room' r settings fits same sheet long answer bytes = (
-  answer ∙ ap Edited long,
+  answer ∙ ap Ok long,
   ap (λ (i : ℕ). take i room'') (sym long)
       ∙ (ap (take (length (sheet_of settings))) bytes ∙ (take-over (sheet_of settings) room' (omega (arith, fits, same, long)) ∙ sheet)),
 )
 
 module _ (room : List ℕ) (size : ℕ) where
-  module _ (index n : ℕ) (room' : List ℕ) (p : Removes room size index (Edited n) room') where
+  module _ (index n : ℕ) (room' : List ℕ) (p : Removes room size index (Ok n) room') where
     d : (remove_refusal room size index ≡ none)
         × (n ≡ length (sheet_of (without index (held (take size room)))))
         × (room' ≡ over (sheet_of (without index (held (take size room)))) room)
@@ -270,7 +270,7 @@ module _ (room : List ℕ) (size : ℕ) where
 
     -- ---- "adding what was removed, too"
     pub removed_added : Bytes (take size room) → (r : Editing) (room'' : List ℕ)
-        → Adds room' n (named (held (take size room)) index) (valued (held (take size room)) index) r room'' → (r ≡ Edited size) × (take size room'' ≡ take size room)
+        → Adds room' n (named (held (take size room)) index) (valued (held (take size room)) index) r room'' → (r ≡ Ok size) × (take size room'' ≡ take size room)
     unfolding named valued
     removed_added bytes r room'' adds =
         let right = right_there room size removed_there.0 in
@@ -291,9 +291,9 @@ module _ (room : List ℕ) (size : ℕ) where
         (absent (held (take n room')) out (rw now.holds (out_apart index (held (take size room)) parts.0 l))) (omega (arith, few, one, many))
         (subst (λ (x : List Setting). length (sheet_of x) ≤ length room') (sym again) (omega (arith, fits, old, room_same))) adds in
         back_there room size room'' room' r (held (take size room)) fits room_same (sheet_of_held (take size room) bytes right.1) old
-        (a.0 ∙ ap (λ (x : List Setting). Edited (length (sheet_of x))) again) (a.1 ∙ ap (λ (x : List Setting). over (sheet_of x) room') again)
+        (a.0 ∙ ap (λ (x : List Setting). Ok (length (sheet_of x))) again) (a.1 ∙ ap (λ (x : List Setting). over (sheet_of x) room') again)
 
-  module _ (unit n : ℕ) (room' : List ℕ) (p : RemovesModule room size unit (Edited n) room') where
+  module _ (unit n : ℕ) (room' : List ℕ) (p : RemovesModule room size unit (Ok n) room') where
     e : (module_refusal room size unit ≡ none)
         × (n ≡ length (sheet_of (others unit (held (take size room)))))
         × (room' ≡ over (sheet_of (others unit (held (take size room)))) room)
@@ -312,7 +312,7 @@ module _ (room : List ℕ) (size : ℕ) where
         kept room size (others unit (held (take size room))) n room' module_there
         (others_writable unit (held (take size room)) (held_writable (take size room) right.1)) (omega (arith, fits, old, less)) e.1 e.2
 
-  module _ (h : Head) (value : List ℕ) (n : ℕ) (room' : List ℕ) (p : Adds room size h value (Edited n) room') where
+  module _ (h : Head) (value : List ℕ) (n : ℕ) (room' : List ℕ) (p : Adds room size h value (Ok n) room') where
     f : (add_refusal room size (setting h value) ≡ none)
         × (n ≡ length (sheet_of (among (setting h value) (held (take size room)))))
         × (room' ≡ over (sheet_of (among (setting h value) (held (take size room)))) room)
@@ -365,7 +365,7 @@ module _ (room : List ℕ) (size : ℕ) where
 
     -- ---- "Removing what was added gives the old sheet back": whichever record has the new one's module and register
     pub added_removed : Bytes (take size room) → (k : ℕ) → k < length (held (take n room')) → SameKey (named (held (take n room')) k) h
-        → (r : Editing) (room'' : List ℕ) → Removes room' n k r room'' → (r ≡ Edited size) × (take size room'' ≡ take size room)
+        → (r : Editing) (room'' : List ℕ) → Removes room' n k r room'' → (r ≡ Ok size) × (take size room'' ≡ take size room)
     unfolding named
     added_removed bytes k l same r room'' removes =
         let k_is = add_kept.holds in
@@ -376,11 +376,11 @@ module _ (room : List ℕ) (size : ℕ) where
         (subst (λ (x : List Setting). SameKey (get_or x k nothing).named h) k_is same) in
         let d = removes_done room' n k r room'' (let q = add_kept.fits in omega (arith, q, room_same)) add_kept.is_right l removes in
         back_there room size room'' room' r (held (take size room)) right.0 room_same (sheet_of_held (take size room) bytes right.1) (old_long room size add_there)
-        (d.0 ∙ ap (λ (x : List Setting). Edited (length (sheet_of x))) there) (d.1 ∙ ap (λ (x : List Setting). over (sheet_of x) room') there)
+        (d.0 ∙ ap (λ (x : List Setting). Ok (length (sheet_of x))) there) (d.1 ∙ ap (λ (x : List Setting). over (sheet_of x) room') there)
 
 -- ---- what an answer tells, and that each call is settled
 
-pub told_number : (f : Fault) (k n : ℕ) → Numbers f k → (edit_told (Refused f) ≡ some k) × (edit_told (Edited n) ≡ none)
+pub told_number : (f : Fault) (k n : ℕ) → Numbers f k → (edit_told (Err f) ≡ some k) × (edit_told (Ok n) ≡ none)
 told_number f k n p = (ap some (sym p), refl)
 
 -- the numbers of 02

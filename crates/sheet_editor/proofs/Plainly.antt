@@ -13,7 +13,7 @@ use Rattle.sheet.specs.Sheet.{sheet_of, named, held, Writable, Right, check_rows
 use Rattle.sheet_editor.specs.Editor.{among, IsOverstated, sheet_rows, HasNot, HasNoneOf, remove_rows, module_rows, IsUnfit, SameKey, IsThere, IsFull, IsNarrow, add_rows}
 use Rattle.sheet_editor.specs.Editor.{edit_told, Removes, RemovesModule, Adds}
 use Rattle.sheet_editor.specs.Promised.{Kept}
-use Rattle.sheet_editor.specs.declared.Editing.{Editing}
+use Rattle.sheet_editor.specs.Answers.{Editing}
 use Rattle.sheet_editor.proofs.Laws.{remove_exactly, module_exactly, add_exactly}
 
 -- "Refusals, in order: 80 stated length over the buffer; 65 to 70 for a sheet that isn't right; then for removal 77 nothing to remove"

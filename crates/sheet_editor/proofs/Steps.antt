@@ -1,5 +1,7 @@
 -- What the code's steps need.
 -- Assumes nothing.
+use Rattle.std.specs.Prelude.{Ok, Err, IsErrAnd, MatchResult}
+use Rattle.std.proofs.lemmas.Result.{err_from_is_err_and}
 use mathlib.Core.Path.{◌≡◌, refl, sym, ap, ◌∙◌}
 use mathlib.Core.Bool.{Bool, true, false, cond, not, ◌&&◌}
 use mathlib.Core.List.{List, [], ◌∷◌}
@@ -21,59 +23,65 @@ use Rattle.setting.specs.Setting.{Setting, setting, head, length_of, Allowed, ro
 use Rattle.setting.proofs.Lists.{head_from, lengths_mono}
 use Rattle.setting.proofs.Steps.{some-none}
 use Rattle.sheet.specs.Sheet.{record_for, sheet_of, named, count_in, held, check_refusal, check_answer}
-use Rattle.sheet.specs.declared.Checked.{Checked}
-use Rattle.sheet.specs.declared.Checked.TheVariants as checked
+use Rattle.sheet.specs.Answers.{Checked}
 use Rattle.sheet_writer.specs.Writer.{LaysAgain}
 use Rattle.sheet_writer.proofs.Steps.{rows_again}
 use Rattle.sheet_editor.specs.Editor.{among, sheet_refusal, has_none_of, same_key, is_there, add_tests, remove_refusal, module_refusal, add_refusal}
 use Rattle.sheet_editor.specs.Editor.{judge_answer, judgement, cut_out, put_in, Edits, Removes, RemovesModule, Adds, RemovesFrom, RemovesModuleFrom, AddsTo}
 use Rattle.sheet_editor.proofs.Chosen.{without_cut, first_of_lem, first_within, module_cut, module_none, module_some, place_of, place-within, there_told, among_put}
 use Rattle.sheet_editor.proofs.Moved.{rows_of, Stands, stands, start_of, starts_within, place_among, stated_long, longer, cut_room, cut_long, put_room, put_long}
-use Rattle.sheet_editor.specs.declared.Editing.{Editing}
-use Rattle.sheet_editor.specs.declared.Editing.TheVariants.{Edited, Refused}
+use Rattle.sheet_editor.specs.Answers.{Editing, Judged}
 use Rattle.sheet_editor.specs.declared.Fault.{Fault}
 use Rattle.sheet_editor.specs.declared.Fault.TheVariants.{Overstated, WrongSheet, NothingThere, NotAllowed, AlreadyThere, Full, NoRoom}
-use Rattle.sheet_editor.specs.declared.Judged.TheVariants.{Right, Wrong}
 
 -- ---- the sheet is judged
 
 module _ (room : List ℕ) (size : ℕ) where
-  pub judge_over : length room < size → Wrong Overstated ≡ judgement room size
+  pub judge_over : length room < size → Err Overstated ≡ judgement room size
   judge_over h = rw (lt-ltb (length room) size h) refl
 
-  told_wrong : (o : Option SheetFault) (n : ℕ) (f : SheetFault) → check_answer o n ≡ checked.Refused f → o ≡ some f
+  told_wrong : (o : Option SheetFault) (n : ℕ) (f : SheetFault) → check_answer o n ≡ Err f → o ≡ some f
   told_wrong (some g) n f e = cc
   told_wrong none n f e = clash (cc)
 
-  told_right : (o : Option SheetFault) (n m : ℕ) → check_answer o n ≡ checked.Right m → (o ≡ none) × (n ≡ m)
+  told_right : (o : Option SheetFault) (n m : ℕ) → check_answer o n ≡ Ok m → (o ≡ none) × (n ≡ m)
   told_right (some g) n m e = clash (cc)
   told_right none n m e = (refl, cc)
 
   whole_part : take (size - 0) room ≡ take size room
   whole_part = let e : size - 0 ≡ size = omega arith in ap (λ (i : ℕ). take i room) e
 
-  pub judge_wrong : (c : Checked) (f : SheetFault) → size ≤ length room
-      → c ≡ check_answer (check_refusal (take (size - 0) room)) (count_in (take (size - 0) room)) → c ≡ checked.Refused f
-      → Wrong (WrongSheet f) ≡ judgement room size
+  judge_wrong : (c : Checked) (f : SheetFault) → size ≤ length room
+      → c ≡ check_answer (check_refusal (take (size - 0) room)) (count_in (take (size - 0) room)) → c ≡ Err f
+      → Err (WrongSheet f) ≡ judgement room size
   judge_wrong c f h is told =
       let o = told_wrong (check_refusal (take size room)) (count_in (take size room)) f
       (ap (λ (x : List ℕ). check_answer (check_refusal x) (count_in x)) (sym whole_part) ∙ (sym is ∙ told)) in
       rw (le-ltb (length room) size h, o) refl
 
-  pub judge_right : (c : Checked) (n : ℕ) → size ≤ length room
-      → c ≡ check_answer (check_refusal (take (size - 0) room)) (count_in (take (size - 0) room)) → c ≡ checked.Right n
-      → Right n ≡ judgement room size
+  judge_right : (c : Checked) (n : ℕ) → size ≤ length room
+      → c ≡ check_answer (check_refusal (take (size - 0) room)) (count_in (take (size - 0) room)) → c ≡ Ok n
+      → Ok n ≡ judgement room size
   judge_right c n h is told =
       let o = told_right (check_refusal (take size room)) (count_in (take size room)) n
       (ap (λ (x : List ℕ). check_answer (check_refusal x) (count_in x)) (sym whole_part) ∙ (sym is ∙ told)) in
       rw (le-ltb (length room) size h, o.0, o.1) refl
 
+  -- the check's answer, its refusal raised
+  pub judge_told : (c : Checked) (r : Judged) → size ≤ length room
+      → c ≡ check_answer (check_refusal (take (size - 0) room)) (count_in (take (size - 0) room))
+      → MatchResult c (λ n. r ≡ Ok n) (λ f. IsErrAnd r (λ g. g ≡ WrongSheet f)) → r ≡ judgement room size
+  judge_told (Ok n) r h is told = told ∙ judge_right (Ok n) n h is refl
+  judge_told (Err f) r h is told =
+      let p = err_from_is_err_and r told in
+      p.1 ∙ (ap Err p.2 ∙ judge_wrong (Err f) f h is refl)
+
   -- what a judgement says
-  wrong_is : (o : Option Fault) (n : ℕ) (f : Fault) → judge_answer o n ≡ Wrong f → o ≡ some f
+  wrong_is : (o : Option Fault) (n : ℕ) (f : Fault) → judge_answer o n ≡ Err f → o ≡ some f
   wrong_is (some g) n f e = cc
   wrong_is none n f e = clash (cc)
 
-  right_is : (o : Option Fault) (n m : ℕ) → judge_answer o n ≡ Right m → (o ≡ none) × (m ≡ n)
+  right_is : (o : Option Fault) (n m : ℕ) → judge_answer o n ≡ Ok m → (o ≡ none) × (m ≡ n)
   right_is (some g) n m e = clash (cc)
   right_is none n m e = (refl, cc)
 
@@ -82,17 +90,17 @@ module _ (room : List ℕ) (size : ℕ) where
   by_over false (some f) e = clash (cc)
   by_over false none e = (refl, refl)
 
-  pub right_sheet : (n : ℕ) → Right n ≡ judgement room size
+  pub right_sheet : (n : ℕ) → Ok n ≡ judgement room size
       → (size ≤ length room) × (check_refusal (take size room) ≡ none) × (n ≡ count_in (take size room))
   right_sheet n e =
       let o = right_is (sheet_refusal room size) (count_in (take size room)) n (sym e) in
       let p = by_over (ltb (length room) size) (check_refusal (take size room)) o.0 in
       (ltb-false (length room) size p.0, p.1, o.1)
 
-  pub wrong_sheet : (f : Fault) → Wrong f ≡ judgement room size → sheet_refusal room size ≡ some f
+  pub wrong_sheet : (f : Fault) → Err f ≡ judgement room size → sheet_refusal room size ≡ some f
   wrong_sheet f e = wrong_is (sheet_refusal room size) (count_in (take size room)) f (sym e)
 
-  pub no_refusal : (n : ℕ) → Right n ≡ judgement room size → sheet_refusal room size ≡ none
+  pub no_refusal : (n : ℕ) → Ok n ≡ judgement room size → sheet_refusal room size ≡ none
   no_refusal n e = (right_is (sheet_refusal room size) (count_in (take size room)) n (sym e)).0
 
 -- ---- the rows of n records
@@ -132,7 +140,7 @@ module _ (room : List ℕ) (size n k : ℕ) where
 -- ---- a call is that of a right sheet, or refused as the sheet is
 
 module _ (room : List ℕ) (size : ℕ) where
-  pub remove_wrong : (index : ℕ) (f : Fault) → sheet_refusal room size ≡ some f → Removes room size index (Refused f) room
+  pub remove_wrong : (index : ℕ) (f : Fault) → sheet_refusal room size ≡ some f → Removes room size index (Err f) room
   unfolding remove_refusal
   remove_wrong index f e = rw e (refl, refl)
 
@@ -140,7 +148,7 @@ module _ (room : List ℕ) (size : ℕ) where
   unfolding remove_refusal
   remove_right index r room' e p = rw e p
 
-  pub module_wrong : (unit : ℕ) (f : Fault) → sheet_refusal room size ≡ some f → RemovesModule room size unit (Refused f) room
+  pub module_wrong : (unit : ℕ) (f : Fault) → sheet_refusal room size ≡ some f → RemovesModule room size unit (Err f) room
   unfolding module_refusal
   module_wrong unit f e = rw e (refl, refl)
 
@@ -149,7 +157,7 @@ module _ (room : List ℕ) (size : ℕ) where
   unfolding module_refusal
   module_right unit r room' e p = rw e p
 
-  pub add_wrong : (h : Head) (value : List ℕ) (f : Fault) → sheet_refusal room size ≡ some f → Adds room size h value (Refused f) room
+  pub add_wrong : (h : Head) (value : List ℕ) (f : Fault) → sheet_refusal room size ≡ some f → Adds room size h value (Err f) room
   unfolding add_refusal
   add_wrong h value f e = rw e (refl, refl)
 
@@ -203,13 +211,13 @@ module _ (room : List ℕ) (size n : ℕ) (right : Given room size n) where
 
     pub cut_done : (one two three : List ℕ) → Moves room (12 + 8 * to) (12 + 8 * from) (8 * (n - to) + first) one
         → Moves one (12 + 8 * n + last) (12 + 8 * (n - (to - from)) + first) (size - (12 + 8 * n + last)) two → LaysAgain (n - (to - from)) two three
-        → Edits none (cut_out from to (held (take size room))) room (Edited (12 + 8 * (n - (to - from)) + first + (size - (12 + 8 * n + last)))) three
+        → Edits none (cut_out from to (held (take size room))) room (Ok (12 + 8 * (n - (to - from)) + first + (size - (12 + 8 * n + last)))) three
     cut_done one two three p q again =
         let a = start_of room size n s from first under e in
         let b = start_of room size n s to last within f in
         let p' = rw a at p in
         let q' = rw (a, b) at q in
-        (rw (a, b) (ap Edited (sym (cut_long room size n s from to rise within one two three p' q' again))), cut_room room size n s from to rise within one two three p' q' again)
+        (rw (a, b) (ap Ok (sym (cut_long room size n s from to rise within one two three p' q' again))), cut_room room size n s from to rise within one two three p' q' again)
 
   -- ---- a setting put in
 
@@ -223,20 +231,20 @@ module _ (room : List ℕ) (size n : ℕ) (right : Given room size n) where
         → Moves one (12 + 8 * at) (12 + 8 * at + 8) (12 + 8 * n + first - (12 + 8 * at)) two
         → Lays (h.unit ∷ h.register ∷ h.kind ∷ h.count ∷ 0 ∷ 0 ∷ 0 ∷ 0 ∷ []) (12 + 8 * at) two three
         → Lays value (12 + 8 * n + first + 8) three four → LaysAgain (n + 1) four five
-        → Edits none (put_in at (setting h value) (held (take size room))) room (Edited (size + 8 + length value)) five
+        → Edits none (put_in at (setting h value) (held (take size room))) room (Ok (size + 8 + length value)) five
     put_done one two three four five p q r t again =
         let a = start_of room size n s at first within e in
         let p' = rw a at p in
         let q' = rw a at q in
         let t' = rw a at t in
         let r' = rw (← row_bytes h) at r in (
-          ap Edited (sym (put_long room size n s at within h value exact fits one two three four five p' q' r' t' again)),
+          ap Ok (sym (put_long room size n s at within h value exact fits one two three four five p' q' r' t' again)),
           put_room room size n s at within h value exact fits one two three four five p' q' r' t' again,
         )
 
   -- ---- the calls on a right sheet
 
-  pub remove_beyond : (index : ℕ) → n ≤ index → RemovesFrom (held (take size room)) room index (Refused NothingThere) room
+  pub remove_beyond : (index : ℕ) → n ≤ index → RemovesFrom (held (take size room)) room index (Err NothingThere) room
   remove_beyond index l = let m = s.many in rw (le-leb (length (held (take size room))) index (omega (arith, l, m))) (refl, refl)
 
   pub remove_one : (index : ℕ) (r : Editing) (room' : List ℕ) → index < n → Edits none (cut_out index (index + 1) (held (take size room))) room r room'
@@ -246,7 +254,7 @@ module _ (room : List ℕ) (size n : ℕ) (right : Given room size n) where
       rw (lt-leb (length (held (take size room))) index (omega (arith, l, m)), without_cut index (held (take size room))) p
 
   -- a module past the last address has no record
-  pub module_beyond : (unit : ℕ) → 160 < unit → RemovesModuleFrom (held (take size room)) room unit (Refused NothingThere) room
+  pub module_beyond : (unit : ℕ) → 160 < unit → RemovesModuleFrom (held (take size room)) room unit (Err NothingThere) room
   unfolding Allowed
   module_beyond unit past =
       let none_there : has_none_of (held (take size room)) unit ≡ true =
@@ -268,7 +276,7 @@ module _ (room : List ℕ) (size n : ℕ) (right : Given room size n) where
     pub module_within : to ≤ n
     module_within = let w = first_within (held (take size room)) s.can.rise (unit + 1) in let m = s.many in let t = to_is in omega (arith, w, m, t)
 
-    pub module_absent : to ≤ from → RemovesModuleFrom (held (take size room)) room unit (Refused NothingThere) room
+    pub module_absent : to ≤ from → RemovesModuleFrom (held (take size room)) room unit (Err NothingThere) room
     module_absent l =
         let a = from_is in
         let b = to_is in
@@ -284,11 +292,11 @@ module _ (room : List ℕ) (size n : ℕ) (right : Given room size n) where
         rw (some_there, module_cut (held (take size room)) s.can.rise unit, ← a, ← b) p
 
   module _ (h : Head) (value : List ℕ) where
-    pub unfit_head : (t : Bool) → t ≡ is_allowed h → not t ≡ true → AddsTo (held (take size room)) room (setting h value) (Refused NotAllowed) room
+    pub unfit_head : (t : Bool) → t ≡ is_allowed h → not t ≡ true → AddsTo (held (take size room)) room (setting h value) (Err NotAllowed) room
     unfit_head t e f = rw (← e, f) (refl, refl)
 
     module _ (t : Bool) (allowed : t ≡ is_allowed h) (so : not t ≡ false) (m : ℕ) (measured : m ≡ length_of h) where
-      pub unfit_value : length value ≢ m → AddsTo (held (take size room)) room (setting h value) (Refused NotAllowed) room
+      pub unfit_value : length value ≢ m → AddsTo (held (take size room)) room (setting h value) (Err NotAllowed) room
       unfit_value apart = rw (← allowed, so, ne_eqb (length value) (length_of h) (λ e. apart (e ∙ sym measured))) (refl, refl)
 
       module _ (exact : length value ≡ m) (at : ℕ) (found : at ≡ first_place (not_below h (heads (take (8 * n) (drop 12 room)))) n) where
@@ -313,11 +321,11 @@ module _ (room : List ℕ) (size n : ℕ) (right : Given room size n) where
                   && same_key (named (held (take size room)) (place_of (held (take size room)) s.can.rise (setting h value))) h)
               by_place = rw (← at-is, s.many) (same_there (ltb at n) refl)
 
-          pub already : there ≡ true → AddsTo (held (take size room)) room (setting h value) (Refused AlreadyThere) room
+          pub already : there ≡ true → AddsTo (held (take size room)) room (setting h value) (Err AlreadyThere) room
           already it_is = rw (← allowed, so, eq-eqb (length value) (length_of h) (exact ∙ measured), told, it_is) (refl, refl)
 
           module _ (absent : there ≡ false) where
-            pub full : 128 ≤ n → AddsTo (held (take size room)) room (setting h value) (Refused Full) room
+            pub full : 128 ≤ n → AddsTo (held (take size room)) room (setting h value) (Err Full) room
             full most =
                 let k = s.many in
                 rw (← allowed, so, eq-eqb (length value) (length_of h) (exact ∙ measured), told, absent, le-leb 128 (length (held (take size room))) (omega (arith, k, most)))
@@ -349,7 +357,7 @@ module _ (room : List ℕ) (size n : ℕ) (right : Given room size n) where
                   l,
                 ) refl
 
-            pub no_room : n < 128 → length room - size < 8 + length value → AddsTo (held (take size room)) room (setting h value) (Refused NoRoom) room
+            pub no_room : n < 128 → length room - size < 8 + length value → AddsTo (held (take size room)) room (setting h value) (Err NoRoom) room
             no_room some_left short =
                 let w = s.within in
                 rw (by_room some_left, lt-ltb (length room) (size + 8 + length value) (omega (arith, short, w))) (refl, refl)

@@ -1,17 +1,15 @@
 -- Throwing settings out of a sheet, and adding one, within the buffer that the sheet stands in. 02, #114.
 -- Assumes nothing.
-use Rattle.std.specs.Prelude.{◌≡◌, Bool, cond, not, ◌&&◌, ◌||◌, List, [], ◌∷◌, ◌++◌, ◌⊎◌, ◌≢◌, ℕ, zero, suc, ◌≤◌, ◌<◌, eqb, leb, ltb, length, take, drop}
+use Rattle.std.specs.Prelude.{◌≡◌, Bool, cond, not, ◌&&◌, ◌||◌, List, [], ◌∷◌, ◌++◌, ◌⊎◌, ◌≢◌, ℕ, zero, suc, ◌≤◌, ◌<◌, eqb, leb, ltb, length, take, drop, Ok, Err}
 use Rattle.std.proofs.Math.Option.{Option, some, none}
 use Rattle.lent.specs.Lent.{over}
 use Rattle.rows.specs.Rows.{Row, row, Test, test, first_row_of, or_later, passed_up, raised}
 use Rattle.setting.specs.declared.Head.{Head}
 use Rattle.setting.specs.Setting.{Setting, setting, length_of, Allowed, Some, is_above, is_allowed, some_of, fault_number as sheet_number}
 use Rattle.sheet.specs.Sheet.{sheet_of, named, count_in, held, check_rows, check_refusal}
-use Rattle.sheet_editor.specs.declared.Editing.{Editing}
-use Rattle.sheet_editor.specs.declared.Editing.TheVariants.{Edited, Refused}
+use Rattle.sheet_editor.specs.Answers.{Editing}
 use Rattle.sheet_editor.specs.declared.Fault.{Fault}
-use Rattle.sheet_editor.specs.declared.Judged.{Judged}
-use Rattle.sheet_editor.specs.declared.Judged.TheVariants.{Right, Wrong}
+use Rattle.sheet_editor.specs.Answers.{Judged}
 use Rattle.sheet_editor.specs.declared.Fault.TheVariants.{Overstated, WrongSheet, NothingThere, NotAllowed, AlreadyThere, Full, NoRoom}
 
 -- ---- the settings of the new sheet
@@ -137,12 +135,12 @@ fault_number Full = 79
 fault_number NoRoom = 80
 
 abbrev pub edit_told : Editing → Option ℕ
-edit_told (Refused f) = some (fault_number f)
-edit_told (Edited size) = none
+edit_told (Err f) = some (fault_number f)
+edit_told (Ok size) = none
 
 abbrev pub edit_answer : Option Fault → ℕ → Editing
-edit_answer (some f) size = Refused f
-edit_answer none size = Edited size
+edit_answer (some f) size = Err f
+edit_answer none size = Ok size
 
 -- "what is left is byte for byte the sheet that #106 writes for the remaining settings. Bytes of the buffer past the new end stay as they
 -- were.", and a refusal leaves every byte
@@ -183,8 +181,8 @@ AddsTo settings room new r room' = Edits (first_row_of (add_tests room settings 
 
 -- how many records a right sheet has, or why nothing is done
 abbrev pub judge_answer : Option Fault → ℕ → Judged
-judge_answer (some f) count = Wrong f
-judge_answer none count = Right count
+judge_answer (some f) count = Err f
+judge_answer none count = Ok count
 
 abbrev pub judgement : List ℕ → ℕ → Judged
 judgement room size = judge_answer (sheet_refusal room size) (count_in (take size room))

@@ -11,7 +11,7 @@ ghost use Rattle.sheet.specs.Sheet.{check_refusal, count_in, held};
 ghost use Rattle.sheet_editor.specs.Editor.{Removes, RemovesModule, Adds, Numbers, RemovesFrom, RemovesModuleFrom, AddsTo, Edits, judgement, same_key, cut_out, put_in};
 
 use setting::{Head, MOST, ROW};
-use sheet::{Checked, HEADER};
+use sheet::HEADER;
 
 // The highest module address.
 const LAST: u8 = 160;
@@ -35,20 +35,6 @@ pub enum Fault {
     NoRoom,
 }
 
-// How long the sheet is now.
-#[derive(Clone, Copy)]
-pub enum Editing {
-    Edited(usize),
-    Refused(Fault),
-}
-
-// How many records a right sheet has, or why nothing is done.
-#[derive(Clone, Copy)]
-enum Judged {
-    Right(usize),
-    Wrong(Fault),
-}
-
 // The paper's number of a refusal.
 pub fn number(fault: Fault) -> u8
     ensures { Numbers fault result }
@@ -65,95 +51,87 @@ pub fn number(fault: Fault) -> u8
 }
 
 // Removes the record at an index, from 0 on, of the sheet that is the room's first `size` bytes.
-// Answers the new length. Bytes past it stay, and a refusal leaves all of the room.
-pub fn remove(room: &mut [u8], size: usize, index: usize) -> Editing
+// Answers how long the sheet is now. Bytes past it stay, and a refusal leaves all of the room.
+pub fn remove(room: &mut [u8], size: usize, index: usize) -> Result<usize, Fault>
     ensures { Removes room.old size index result room.new }
 {
-    match judge(&room[..], size) {
-        Judged::Wrong(fault) => Editing::Refused(fault),
-        Judged::Right(n) => remove_from(room, size, n, index),
-    }
+    let n = judge(&room[..], size)?;
+    remove_from(room, size, n, index)
 }
 
-// Removes all records of a module.
-pub fn remove_module(room: &mut [u8], size: usize, unit: u8) -> Editing
+// Removes all records of a module and answers how long the sheet is now.
+pub fn remove_module(room: &mut [u8], size: usize, unit: u8) -> Result<usize, Fault>
     ensures { RemovesModule room.old size unit result room.new }
 {
-    match judge(&room[..], size) {
-        Judged::Wrong(fault) => Editing::Refused(fault),
-        Judged::Right(n) => remove_module_from(room, size, n, unit),
-    }
+    let n = judge(&room[..], size)?;
+    remove_module_from(room, size, n, unit)
 }
 
-// Adds a setting where it stands in order.
-pub fn add(room: &mut [u8], size: usize, head: Head, value: &[u8]) -> Editing
+// Adds a setting where it stands in order and answers how long the sheet is now.
+pub fn add(room: &mut [u8], size: usize, head: Head, value: &[u8]) -> Result<usize, Fault>
     ensures { Adds room.old size head value.now result room.new }
 {
-    match judge(&room[..], size) {
-        Judged::Wrong(fault) => Editing::Refused(fault),
-        Judged::Right(n) => add_to(room, size, n, head, value),
-    }
+    let n = judge(&room[..], size)?;
+    add_to(room, size, n, head, value)
 }
 
-// Checks the sheet that is the room's first `size` bytes.
-fn judge(room: &[u8], size: usize) -> Judged
+// Checks the sheet that is the room's first `size` bytes: how many records a right one has, or why
+// nothing is done.
+fn judge(room: &[u8], size: usize) -> Result<usize, Fault>
     ensures { result ≡ judgement room.now size }
 {
     let end = room.len();
     if end < size {
-        return Judged::Wrong(Fault::Overstated);
+        return Err(Fault::Overstated);
     }
-    match sheet::check(&room[0..size]) {
-        Checked::Refused(wrong) => Judged::Wrong(Fault::WrongSheet(wrong)),
-        Checked::Right(n) => Judged::Right(n),
-    }
+    sheet::check(&room[0..size]).map_err(Fault::WrongSheet)
 }
 
 // The same of a right sheet with n records.
-fn remove_from(room: &mut [u8], size: usize, n: usize, index: usize) -> Editing
+fn remove_from(room: &mut [u8], size: usize, n: usize, index: usize) -> Result<usize, Fault>
     requires { (size ≤ length room.old) × (check_refusal (take size room.old) ≡ none) × (n ≡ count_in (take size room.old)) }
     ensures { RemovesFrom (held (take size room.old)) room.old index result room.new }
 {
     if n <= index {
-        return Editing::Refused(Fault::NothingThere);
+        return Err(Fault::NothingThere);
     }
     cut(room, size, n, index, index + 1)
 }
 
-fn remove_module_from(room: &mut [u8], size: usize, n: usize, unit: u8) -> Editing
+fn remove_module_from(room: &mut [u8], size: usize, n: usize, unit: u8) -> Result<usize, Fault>
     requires { (size ≤ length room.old) × (check_refusal (take size room.old) ≡ none) × (n ≡ count_in (take size room.old)) }
     ensures { RemovesModuleFrom (held (take size room.old)) room.old unit result room.new }
 {
     if LAST < unit {
-        return Editing::Refused(Fault::NothingThere);
+        return Err(Fault::NothingThere);
     }
     let from = first_of(&room[..], n, unit);
     let to = first_of(&room[..], n, unit + 1);
     if to <= from {
-        return Editing::Refused(Fault::NothingThere);
+        return Err(Fault::NothingThere);
     }
     cut(room, size, n, from, to)
 }
 
-fn add_to(room: &mut [u8], size: usize, n: usize, head: Head, value: &[u8]) -> Editing
+fn add_to(room: &mut [u8], size: usize, n: usize, head: Head, value: &[u8]) -> Result<usize, Fault>
     requires { (size ≤ length room.old) × (check_refusal (take size room.old) ≡ none) × (n ≡ count_in (take size room.old)) }
     ensures { AddsTo (held (take size room.old)) room.old (setting head value.now) result room.new }
 {
     if !setting::is_allowed(head) {
-        return Editing::Refused(Fault::NotAllowed);
+        return Err(Fault::NotAllowed);
     }
     if value.len() != setting::measure(head) {
-        return Editing::Refused(Fault::NotAllowed);
+        return Err(Fault::NotAllowed);
     }
     let at = place(&room[..], n, head);
     if is_there(&room[..], n, at, head) {
-        return Editing::Refused(Fault::AlreadyThere);
+        return Err(Fault::AlreadyThere);
     }
     if MOST <= n {
-        return Editing::Refused(Fault::Full);
+        return Err(Fault::Full);
     }
     if room.len() - size < ROW + value.len() {
-        return Editing::Refused(Fault::NoRoom);
+        return Err(Fault::NoRoom);
     }
     put(room, size, n, at, head, value)
 }
@@ -215,7 +193,7 @@ fn start_of(room: &[u8], size: usize, n: usize, k: usize) -> usize
 // Cuts out the records from one place up to another, with their values. The records behind them and
 // the values before theirs are one stretch, and the values behind theirs another: both go down. Then
 // come the offsets, so that none of the old ones is left past the end.
-fn cut(room: &mut [u8], size: usize, n: usize, from: usize, to: usize) -> Editing
+fn cut(room: &mut [u8], size: usize, n: usize, from: usize, to: usize) -> Result<usize, Fault>
     requires { (size ≤ length room.old) × (check_refusal (take size room.old) ≡ none) × (n ≡ count_in (take size room.old)) × (from ≤ to) × (to ≤ n) }
     ensures { Edits none (cut_out from to (held (take size room.old))) room.old result room.new }
 {
@@ -236,12 +214,19 @@ fn cut(room: &mut [u8], size: usize, n: usize, from: usize, to: usize) -> Editin
         size - (end + last),
     );
     sheet_writer::lay_again(left as u8, room);
-    Editing::Edited(HEADER + ROW * left + first + (size - (end + last)))
+    Ok(HEADER + ROW * left + first + (size - (end + last)))
 }
 
 // Puts a setting in at a place. The values behind its own go up first, then the records behind it with
 // the values before its own, which leaves room for its record and for its value.
-fn put(room: &mut [u8], size: usize, n: usize, at: usize, head: Head, value: &[u8]) -> Editing
+fn put(
+    room: &mut [u8],
+    size: usize,
+    n: usize,
+    at: usize,
+    head: Head,
+    value: &[u8],
+) -> Result<usize, Fault>
     requires { (size ≤ length room.old) × (check_refusal (take size room.old) ≡ none) × (n ≡ count_in (take size room.old)) × (at ≤ n) × (n + 1 ≤ 128) × (size + (8 + length value.now) ≤ length room.old) × (length value.now ≡ length_of head) }
     ensures { Edits none (put_in at (setting head value.now) (held (take size room.old))) room.old result room.new }
 {
@@ -258,5 +243,5 @@ fn put(room: &mut [u8], size: usize, n: usize, at: usize, head: Head, value: &[u
     );
     lent::lay_at(value, room, place);
     sheet_writer::lay_again((n + 1) as u8, room);
-    Editing::Edited(size + ROW + value.len())
+    Ok(size + ROW + value.len())
 }

@@ -1,5 +1,6 @@
 -- And back: a line as it is written is what is written again for the setting that it reads as.
 -- Assumes nothing.
+use Rattle.std.specs.Prelude.{Ok, Some}
 use mathlib.Core.Path.{◌≡◌, refl, sym, ap, ◌∙◌}
 use mathlib.Core.Bool.{Bool, true, false, cond}
 use mathlib.Core.List.{List, [], ◌∷◌}
@@ -13,7 +14,6 @@ use Rattle.rows.proofs.Laws.{told_true}
 use Rattle.text.specs.Text.{decimal}
 use Rattle.values.specs.declared.Value.{Value}
 use Rattle.values.specs.declared.Value.TheVariants.{Natural}
-use Rattle.values.specs.declared.Reading.TheVariants as reading
 use Rattle.values.specs.Values.{size_of, fits, bytes_of, stored_at, stored_refusal, element_of}
 use Rattle.values.specs.Values.{read_value}
 use Rattle.values.proofs.Bytes.{length-bytes_of}
@@ -26,7 +26,6 @@ use Rattle.sheet.specs.declared.Record.{Record}
 use Rattle.sheet_line.specs.Words.{words_of, joined}
 use Rattle.sheet_line.specs.Line.{kind_of, word_at, small_at, head_in, bytes_in, value_in}
 use Rattle.sheet_line.specs.Line.{element_text, line_of, Canonical, Reads, Writes}
-use Rattle.sheet_line.specs.declared.Line.TheVariants as line
 use Rattle.sheet_line.proofs.Joined.{Every, at_every}
 use Rattle.sheet_line.proofs.Sound.{kind_named, Sound, read_sound, read_allowed, length-bytes_in}
 use Rattle.sheet_line.proofs.Written.{texts_from, words_for, line_joined, written}
@@ -69,7 +68,7 @@ texts_again kind count value (word ∷ rest) k low high many h e each =
     let element : take (size_of kind) (drop (k * size_of kind) value) ≡ first = rw e (take_at first (bytes_in kind rest) (size_of kind) (length-bytes_of _ _)) in
     let behind : drop (suc k * size_of kind) value ≡ bytes_in kind rest =
     rw (on, ← drop-drop (size_of kind) (k * size_of kind) value, e) (drop_at first (bytes_in kind rest) (size_of kind) (length-bytes_of _ _)) in
-    let is : read_value kind value k ≡ reading.Is (value_of word) =
+    let is : read_value kind value k ≡ Ok (value_of word) =
     reads_element kind (value_of word) value k (kept_so kind (value_of word) low high each.0.1) (readable kind count value low high many k (omega arith)) element in
     rw (is, spelt_again word each.0.0 (small_fits kind (value_of word) low high each.0.1))
     (ap (λ (l : List (List ℕ)). word ∷ l) (texts_again kind count value rest (suc k) low high many (omega arith) behind each.1))
@@ -104,7 +103,7 @@ words_again (a ∷ b ∷ c ∷ d ∷ rest) room s short =
       decimal_again d (short 3 (omega arith) (λ e. omega arith)) (omega (arith, s.allowed.1.1.0.1)),
     )
 
-pub written_again : (text room : List ℕ) (r : Record) (room' : List ℕ) → Canonical text → Reads text room (line.Is r) room'
+pub written_again : (text room : List ℕ) (r : Record) (room' : List ℕ) → Canonical text → Reads text room (Ok (Some r)) room'
     → line_of (setting r.head (take r.size room')) ≡ text
 written_again text room r room' c reads =
     let f = read_allowed text room r room' reads in
@@ -112,12 +111,12 @@ written_again text room r room' c reads =
     (line_joined _ ∙ ap joined (words_again (words_of text) (length room) (read_sound text room r room' reads) c.short) ∙ c.spaced)
 
 -- of the calls: `write` of what `read` read is that line again
-pub read_writes : (text room : List ℕ) (r : Record) (room' : List ℕ) → Canonical text → Reads text room (line.Is r) room'
+pub read_writes : (text room : List ℕ) (r : Record) (room' : List ℕ) → Canonical text → Reads text room (Ok (Some r)) room'
     → (space : List ℕ) (n : ℕ) (space' : List ℕ) → Writes r.head (take r.size room') space n space' → n ≤ length space → take n space' ≡ text
 read_writes text room r room' c reads space n space' w l =
     written (setting r.head (take r.size room')) space n space' w l ∙ written_again text room r room' c reads
 
 -- so two lines as they are written that read as the same setting are the same line
 pub written_once : (a b room : List ℕ) (r : Record) (room' : List ℕ) → Canonical a → Canonical b
-    → Reads a room (line.Is r) room' → Reads b room (line.Is r) room' → a ≡ b
+    → Reads a room (Ok (Some r)) room' → Reads b room (Ok (Some r)) room' → a ≡ b
 written_once a b room r room' ca cb ra rb = sym (written_again a room r room' ca ra) ∙ written_again b room r room' cb rb

@@ -1,5 +1,6 @@
 -- What is wrong with the first four words of a line, test by test.
 -- Assumes nothing.
+use Rattle.std.specs.Prelude.{Ok, Err}
 use mathlib.Core.Path.{◌≡◌, refl, sym, ◌∙◌}
 use mathlib.Core.Bool.{Bool, true, false, ◌&&◌}
 use mathlib.Core.List.{List}
@@ -18,7 +19,6 @@ use Rattle.sheet_line.specs.Line.{word_at, head_in, head_tests}
 use Rattle.sheet_line.specs.Parts.{Says, judged_as}
 use Rattle.sheet_line.specs.declared.Fault.TheVariants.{NoModule, NoRegister, NoKind, BadCount, OtherCount}
 use Rattle.sheet_line.specs.declared.reading.Four.{Four}
-use Rattle.sheet_line.specs.declared.reading.Judged.TheVariants as judged
 use Rattle.sheet_line.proofs.Steps.{kind_most}
 
 -- two tests of one condition
@@ -50,19 +50,19 @@ module _ (unit register kind count : ℕ) (u : 1 ≤ unit) (v : unit ≤ 160) (k
 -- ---- the tests, in order
 
 module _ (words : List (List ℕ)) (four : Four) (says : Says words four) where
-  pub low_module : four.unit < 1 → judged.Wrong NoModule ≡ judged_as (first_row_of (head_tests words)) (head_in words)
+  pub low_module : four.unit < 1 → Err NoModule ≡ judged_as (first_row_of (head_tests words)) (head_in words)
   low_module h = rw (← says.0, lt-leb 1 four.unit h)
 
   module _ (u : 1 ≤ four.unit) where
-    pub high_module : 160 < four.unit → judged.Wrong NoModule ≡ judged_as (first_row_of (head_tests words)) (head_in words)
+    pub high_module : 160 < four.unit → Err NoModule ≡ judged_as (first_row_of (head_tests words)) (head_in words)
     high_module h = rw (← says.0, le-leb 1 four.unit u, lt-leb four.unit 160 h)
 
     module _ (v : four.unit ≤ 160) where
-      pub high_register : 255 < four.register → judged.Wrong NoRegister ≡ judged_as (first_row_of (head_tests words)) (head_in words)
+      pub high_register : 255 < four.register → Err NoRegister ≡ judged_as (first_row_of (head_tests words)) (head_in words)
       high_register h = rw (← says.0, ← says.1, le-leb 1 four.unit u, le-leb four.unit 160 v, lt-ltb 255 four.register h)
 
       module _ (r : four.register ≤ 255) where
-        pub no_kind : four.kind ≡ 0 → judged.Wrong NoKind ≡ judged_as (first_row_of (head_tests words)) (head_in words)
+        pub no_kind : four.kind ≡ 0 → Err NoKind ≡ judged_as (first_row_of (head_tests words)) (head_in words)
         no_kind h =
             rw (← says.0, ← says.1, ← says.2, le-leb 1 four.unit u, le-leb four.unit 160 v, le-ltb 255 four.register r, eq-eqb four.kind 0 h)
 
@@ -74,7 +74,7 @@ module _ (words : List (List ℕ)) (four : Four) (says : Says words four) where
           known_kind = rw says.2 (kind_most (word_at words 2))
 
           bad_count : leb 1 four.count && leb four.count (get_or most_elements four.kind 0) ≡ false
-              → judged.Wrong BadCount ≡ judged_as (first_row_of (head_tests words)) (head_in words)
+              → Err BadCount ≡ judged_as (first_row_of (head_tests words)) (head_in words)
           bad_count h =
               rw (
                 ← says.0,
@@ -88,7 +88,7 @@ module _ (words : List (List ℕ)) (four : Four) (says : Says words four) where
                 h,
               )
 
-          pub high_count : 255 < four.count → judged.Wrong BadCount ≡ judged_as (first_row_of (head_tests words)) (head_in words)
+          pub high_count : 255 < four.count → Err BadCount ≡ judged_as (first_row_of (head_tests words)) (head_in words)
           high_count h = bad_count (count_high four.unit four.register four.kind four.count u v some_kind known_kind h)
 
           -- what `is_allowed` told of it
@@ -96,12 +96,12 @@ module _ (words : List (List ℕ)) (four : Four) (says : Says words four) where
             by_count : (leb 1 four.count && leb four.count (get_or most_elements four.kind 0)) ≡ t
             by_count = sym (told ∙ count_allowed four.unit four.register four.kind four.count u v some_kind known_kind)
 
-            pub not_allowed : t ≡ false → judged.Wrong BadCount ≡ judged_as (first_row_of (head_tests words)) (head_in words)
+            pub not_allowed : t ≡ false → Err BadCount ≡ judged_as (first_row_of (head_tests words)) (head_in words)
             not_allowed e = bad_count (by_count ∙ e)
 
             module _ (e : t ≡ true) (many : ℕ) (long : many ≡ length words) (enough : 4 ≤ many) where
               pub all_right : many - 4 ≡ four.count
-                  → judged.Right (head four.unit four.register four.kind four.count) ≡ judged_as (first_row_of (head_tests words)) (head_in words)
+                  → Ok (head four.unit four.register four.kind four.count) ≡ judged_as (first_row_of (head_tests words)) (head_in words)
               unfolding head_in
               all_right h =
                   rw (
@@ -118,7 +118,7 @@ module _ (words : List (List ℕ)) (four : Four) (says : Says words four) where
                     eq-eqb many (4 + four.count) (omega arith),
                   )
 
-              pub other_count : many - 4 ≢ four.count → judged.Wrong OtherCount ≡ judged_as (first_row_of (head_tests words)) (head_in words)
+              pub other_count : many - 4 ≢ four.count → Err OtherCount ≡ judged_as (first_row_of (head_tests words)) (head_in words)
               other_count h =
                   rw (
                     ← long,

@@ -1,5 +1,6 @@
 -- What is promised of a line: the laws that callers may cite.
 -- Assumes nothing.
+use Rattle.std.specs.Prelude.{Ok, Err, Some, None}
 use mathlib.Core.Path.{◌≡◌, refl, sym, ap, ◌∙◌}
 use mathlib.Core.Bool.{Bool, false, not, true≢false}
 use mathlib.Core.List.{List, [], ◌∷◌}
@@ -26,8 +27,7 @@ use Rattle.sheet_line.specs.Words.{words_of}
 use Rattle.sheet_line.specs.Line.{word_at, small_at, kind_in, head_in, value_in, AreFew, IsNoNumber, is_no_number, IsNoModule, IsNoRegister, IsBadCount, AreOther}
 use Rattle.sheet_line.specs.Line.{IsUnfit, is_unfit, IsNarrow, line_rows, line_tests, line_refusal, line_answer, said_by, room_after, Numbers, Words, Reads}
 use Rattle.sheet_line.specs.declared.Fault.{Fault}
-use Rattle.sheet_line.specs.declared.Line.{Line}
-use Rattle.sheet_line.specs.declared.Line.TheVariants as line
+use Rattle.sheet_line.specs.Answers.{Line}
 use Rattle.sheet_line.proofs.Naming.{decides_kindless}
 
 -- ---- the tests of a line decide its rows
@@ -60,24 +60,24 @@ line_ranked words room =
 -- ---- what an answer of `read` says: each exactly where it applies
 
 module _ (o : Option Fault) (h : Head) where
-  wrong_answered : (f : Fault) → (line_answer o h ≡ line.Wrong f) ↔ (o ≡ some f)
+  wrong_answered : (f : Fault) → (line_answer o h ≡ Err f) ↔ (o ≡ some f)
   wrong_answered f = (there o, λ e. ap (λ (p : Option Fault). line_answer p h) e)
     where
-      there : (p : Option Fault) → line_answer p h ≡ line.Wrong f → p ≡ some f
+      there : (p : Option Fault) → line_answer p h ≡ Err f → p ≡ some f
       there (some g) e = cc
       there none e = clash (cc)
 
-  right_answered : (s : Record) → (line_answer o h ≡ line.Is s) ↔ ((o ≡ none) × (s ≡ record_as h))
-  right_answered s = (there o, λ p. ap (λ (q : Option Fault). line_answer q h) p.0 ∙ ap line.Is (sym p.1))
+  right_answered : (s : Record) → (line_answer o h ≡ Ok (Some s)) ↔ ((o ≡ none) × (s ≡ record_as h))
+  right_answered s = (there o, λ p. ap (λ (q : Option Fault). line_answer q h) p.0 ∙ ap (λ x. Ok (Some x)) (sym p.1))
     where
-      there : (p : Option Fault) → line_answer p h ≡ line.Is s → (p ≡ none) × (s ≡ record_as h)
+      there : (p : Option Fault) → line_answer p h ≡ Ok (Some s) → (p ≡ none) × (s ≡ record_as h)
       there (some g) e = clash (cc)
       there none e = (refl, cc)
 
-  never_nothing : line_answer o h ≡ line.Nothing → ⊥
+  never_nothing : line_answer o h ≡ Ok None → ⊥
   never_nothing = there o
     where
-      there : (p : Option Fault) → line_answer p h ≡ line.Nothing → ⊥
+      there : (p : Option Fault) → line_answer p h ≡ Ok None → ⊥
       there (some g) e = clash (cc)
       there none e = clash (cc)
 
@@ -85,9 +85,9 @@ module _ (o : Option Fault) (h : Head) where
 -- says a setting exactly where no row holds, and that is the one that its first four words name
 abbrev pub Exactly : List (List ℕ) → List ℕ → Line → Type 0
 Exactly words room r =
-    ((r ≡ line.Nothing) ↔ (words ≡ []))
-    × ((f : Fault) → (r ≡ line.Wrong f) ↔ ((words ≢ []) × First (line_rows words room) f))
-    × ((s : Record) → (r ≡ line.Is s) ↔ ((words ≢ []) × (NoRow (line_rows words room) × (s ≡ record_as (head_in words)))))
+    ((r ≡ Ok None) ↔ (words ≡ []))
+    × ((f : Fault) → (r ≡ Err f) ↔ ((words ≢ []) × First (line_rows words room) f))
+    × ((s : Record) → (r ≡ Ok (Some s)) ↔ ((words ≢ []) × (NoRow (line_rows words room) × (s ≡ record_as (head_in words)))))
 
 said_exactly : (words : List (List ℕ)) (room : List ℕ) (r : Line) → r ≡ said_by words (length room) → Exactly words room r
 unfolding said_by
@@ -117,7 +117,7 @@ line_exactly text room r room' p = said_exactly (words_of text) room r p.0
 
 -- the value of a setting is laid over the buffer; whatever else is answered leaves every byte of it
 pub line_laid : (text room : List ℕ) (r : Line) (room' : List ℕ) → Reads text room r room'
-    → ((s : Record) → r ≡ line.Is s → room' ≡ over (value_in (words_of text)) room) × ((f : Fault) → r ≡ line.Wrong f → room' ≡ room) × (r ≡ line.Nothing → room' ≡ room)
+    → ((s : Record) → r ≡ Ok (Some s) → room' ≡ over (value_in (words_of text)) room) × ((f : Fault) → r ≡ Err f → room' ≡ room) × (r ≡ Ok None → room' ≡ room)
 line_laid text room r room' p = (λ s e. laid ∙ ap after e, λ f e. laid ∙ ap after e, λ e. laid ∙ ap after e)
   where
     after : Line → List ℕ

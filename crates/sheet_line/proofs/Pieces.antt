@@ -1,5 +1,6 @@
 -- How a line is put together from its pieces in a lent room.
 -- Assumes nothing.
+use Rattle.std.specs.Prelude.{Ok, Err}
 use mathlib.Core.Path.{◌≡◌, refl, sym, ap, subst, ◌∙◌}
 use mathlib.Core.Bool.{Bool, true, false, cond, ◌&&◌}
 use mathlib.Core.List.{List, [], ◌∷◌}
@@ -19,8 +20,7 @@ use Rattle.values.specs.Values.{size_of, is_signed, Bytes, Holds, read_value}
 use Rattle.values.specs.declared.Value.{Value}
 use Rattle.values.specs.declared.Value.TheVariants.{Natural, Negative}
 use Rattle.values.specs.declared.Fault.{Fault}
-use Rattle.values.specs.declared.Reading.{Reading}
-use Rattle.values.specs.declared.Reading.TheVariants as reading
+use Rattle.values.specs.Answers.{Reading}
 use Rattle.values.proofs.Laws.{element_stored}
 use Rattle.values.proofs.Refusals.{decides_fits, stored_none}
 use Rattle.values.proofs.Table.{at as each_at}
@@ -69,7 +69,7 @@ name_put kind name at r room room' e p =
 -- ---- an element
 
 -- one below 0 is not so low that its negative would be no number of 64 bits
-pub read_small : (kind : ℕ) (bytes : List ℕ) (k m : ℕ) → Bytes bytes → read_value kind bytes k ≡ reading.Is (Negative m) → m < 2 ^ 63
+pub read_small : (kind : ℕ) (bytes : List ℕ) (k m : ℕ) → Bytes bytes → read_value kind bytes k ≡ Ok (Negative m) → m < 2 ^ 63
 unfolding Holds
 read_small kind bytes k m each e =
     let kept = stored_none kind (Negative m) (element_stored kind (Negative m) bytes k each e).0 in
@@ -80,20 +80,20 @@ read_small kind bytes k m each e =
     by_sign true s h = lt_of_lt_of_le h (half_le (size_of kind) s)
 
 -- what `read` answered, told case by case
-pub read_as : (kind : ℕ) (bytes : List ℕ) (k : ℕ) (r : Reading) (v w : Value) → r ≡ read_value kind bytes k → r ≡ reading.Is v → v ≡ w
-    → read_value kind bytes k ≡ reading.Is w
-read_as kind bytes k r v w read is e = sym read ∙ is ∙ ap reading.Is e
+pub read_as : (kind : ℕ) (bytes : List ℕ) (k : ℕ) (r : Reading) (v w : Value) → r ≡ read_value kind bytes k → r ≡ Ok v → v ≡ w
+    → read_value kind bytes k ≡ Ok w
+read_as kind bytes k r v w read is e = sym read ∙ is ∙ ap Ok e
 
-pub natural_text : (kind : ℕ) (bytes : List ℕ) (k n : ℕ) → read_value kind bytes k ≡ reading.Is (Natural n) → 32 ∷ element_text (read_value kind bytes k) ≡ 32 ∷ decimal n
+pub natural_text : (kind : ℕ) (bytes : List ℕ) (k n : ℕ) → read_value kind bytes k ≡ Ok (Natural n) → 32 ∷ element_text (read_value kind bytes k) ≡ 32 ∷ decimal n
 unfolding element_text spelt
 natural_text kind bytes k n e = rw e
 
-pub negative_text : (kind : ℕ) (bytes : List ℕ) (k n : ℕ) → read_value kind bytes k ≡ reading.Is (Negative n)
+pub negative_text : (kind : ℕ) (bytes : List ℕ) (k n : ℕ) → read_value kind bytes k ≡ Ok (Negative n)
     → 32 ∷ element_text (read_value kind bytes k) ≡ 32 ∷ (45 ∷ decimal (n + 1))
 unfolding element_text spelt
 negative_text kind bytes k n e = rw (e, add-one n)
 
-pub no_text : (kind : ℕ) (bytes : List ℕ) (k : ℕ) (r : Reading) (f : Fault) → r ≡ read_value kind bytes k → r ≡ reading.Refused f
+pub no_text : (kind : ℕ) (bytes : List ℕ) (k : ℕ) (r : Reading) (f : Fault) → r ≡ read_value kind bytes k → r ≡ Err f
     → 32 ∷ element_text (read_value kind bytes k) ≡ ascii " ?"
 unfolding element_text
 no_text kind bytes k r f read is = rw (← read, is)

@@ -1,5 +1,6 @@
 -- The definitions of a line, said out: docs/SHEETS.md in plain figures.
 -- Assumes nothing.
+use Rattle.std.specs.Prelude.{Ok, Err, Some}
 use mathlib.Core.Path.{◌≡◌, refl, ap, ◌∙◌}
 use mathlib.Core.Bool.{Bool, true, false, ◌||◌}
 use mathlib.Core.List.{List, [], ◌∷◌, ◌++◌, append-nil}
@@ -20,7 +21,6 @@ use Rattle.sheet_line.specs.Words.{plain, is_blank, parts, with_word, onto, part
 use Rattle.sheet_line.specs.Line.{name_of, kind_of, word_at, small_at, head_in, bytes_in, value_in, setting_in, is_no_number, is_unfit, line_refusal, said_by}
 use Rattle.sheet_line.specs.Line.{line_of, Numbers, Words, Writes}
 use Rattle.sheet_line.specs.declared.Fault.TheVariants.{FewWords, NoNumber, NoModule, NoRegister, NoKind, BadCount, OtherCount, NotFitting, NoRoom}
-use Rattle.sheet_line.specs.declared.Line.TheVariants.{Is, Wrong}
 use Rattle.sheet_line.proofs.Joined.{Whole, parted_word, with_word_lem}
 
 -- ---- "bytes 32, 9 and 13"
@@ -121,7 +121,7 @@ writes_plainly h value room = (refl, refl)
 -- ---- computed: 57, which no text meets, since it is read with room for every value; `sheet_texts/specs: keys_table` has the other rows
 
 pub no_room :
-    (said_by (words_of (ascii "15 48 U16 2 1 2")) 3 ≡ Wrong NoRoom)
-    × (said_by (words_of (ascii "15 48 U16 2 1 2")) 4 ≡ Is (record_as (head 15 48 3 2)))
+    (said_by (words_of (ascii "15 48 U16 2 1 2")) 3 ≡ Err NoRoom)
+    × (said_by (words_of (ascii "15 48 U16 2 1 2")) 4 ≡ Ok (Some (record_as (head 15 48 3 2))))
 unfolding said_by line_refusal words_of words_in plain parted onto with_word is_blank head_in small_at kind_of same name_of limited_to under is_number figures_of figures_at unsigned_at is_minus is_hex base_of are_digits digit_of worth amount_of below value_of is_no_number is_unfit some_of fits length_of size_of is_signed greatest first_place passed_from
 no_room = (refl, refl)

@@ -1,5 +1,6 @@
 -- What a line's words say: the code's returns, one by one.
 -- Assumes nothing.
+use Rattle.std.specs.Prelude.{Ok, Err, Some, None}
 use mathlib.Core.Path.{◌≡◌, refl, sym, ap, ap₂, ◌∙◌}
 use mathlib.Core.Bool.{Bool, true, false, not, ◌&&◌}
 use mathlib.Core.List.{List, []}
@@ -32,9 +33,7 @@ use Rattle.sheet_line.specs.Line.{head_tests, value_tests, line_refusal, line_an
 use Rattle.sheet_line.specs.Parts.{judged_as, AreNumbers, unfit_in, bytes_for, Headed}
 use Rattle.sheet_line.specs.declared.Fault.{Fault}
 use Rattle.sheet_line.specs.declared.Fault.TheVariants.{FewWords, NoNumber, NotFitting, NoRoom}
-use Rattle.sheet_line.specs.declared.Line.{Line}
-use Rattle.sheet_line.specs.declared.Line.TheVariants as line
-use Rattle.sheet_line.specs.declared.reading.Judged.TheVariants as judged
+use Rattle.sheet_line.specs.Answers.{Line}
 use Rattle.sheet_line.proofs.Steps.{both, kind_most}
 use Rattle.sheet_line.proofs.Storing.{length-bytes_in}
 
@@ -122,9 +121,9 @@ module _ (words : List (List ℕ)) (h : Head) (headed : Headed words h) where
           ∙ (first-same (unfit_in h.kind values) (is_unfit words) h.count (λ k l. ap₂ (λ (kind : ℕ) (w : List ℕ). not (fits kind (value_of w))) kinded (value_at_lem k))
           ∙ ap (first_place (is_unfit words)) counted)
 
-      pub not_fitting : (room : ℕ) → r < h.count → line.Wrong (NotFitting (r + 5)) ≡ line_answer (first_row_of (value_tests words room)) (head_in words)
+      pub not_fitting : (room : ℕ) → r < h.count → Err (NotFitting (r + 5)) ≡ line_answer (first_row_of (value_tests words room)) (head_in words)
       not_fitting room l =
-          rw (some_found (is_unfit words) (small_at words 3) r found_in (omega (arith, l, counted))) (ap (λ (n : ℕ). line.Wrong (NotFitting (n + 5))) found_in)
+          rw (some_found (is_unfit words) (small_at words 3) r found_in (omega (arith, l, counted))) (ap (λ (n : ℕ). Err (NotFitting (n + 5))) found_in)
 
       module _ (all : h.count ≤ r) (size : ℕ) (sized : size ≡ length_of h) where
         fitting : some_of (is_unfit words) (small_at words 3) ≡ false
@@ -133,10 +132,10 @@ module _ (words : List (List ℕ)) (h : Head) (headed : Headed words h) where
         long : size ≡ length_of (head_in words)
         long = sized ∙ ap length_of headed.is
 
-        pub no_room : (room : ℕ) → room < size → line.Wrong NoRoom ≡ line_answer (first_row_of (value_tests words room)) (head_in words)
+        pub no_room : (room : ℕ) → room < size → Err NoRoom ≡ line_answer (first_row_of (value_tests words room)) (head_in words)
         no_room room l = rw (fitting, lt-ltb room (length_of (head_in words)) (omega (arith, l, long)))
 
-        pub is_right : (room : ℕ) → size ≤ room → line.Is (record { head = h; size = size }) ≡ line_answer (first_row_of (value_tests words room)) (head_in words)
+        pub is_right : (room : ℕ) → size ≤ room → Ok (Some (record { head = h; size = size })) ≡ line_answer (first_row_of (value_tests words room)) (head_in words)
         is_right room l = rw (fitting, le-ltb room (length_of (head_in words)) (omega (arith, l, long)), ← headed.is, sized) refl
 
         whole_is : bytes_for h values ≡ value_in words
@@ -167,24 +166,24 @@ module _ (words : List (List ℕ)) (h : Head) (headed : Headed words h) where
 
 -- ---- a line
 
-pub no_word : (words : List (List ℕ)) (room : ℕ) {many : ℕ} → many ≡ length words → many ≡ 0 → line.Nothing ≡ said_by words room
+pub no_word : (words : List (List ℕ)) (room : ℕ) {many : ℕ} → many ≡ length words → many ≡ 0 → (Ok None) ≡ said_by words room
 unfolding said_by
 no_word words room e z = rw (← e, z)
 
 module _ (words : List (List ℕ)) (room : ℕ) {many : ℕ} (long : many ≡ length words) (some_word : many ≢ 0) where
-  pub few_words : many < 4 → line.Wrong FewWords ≡ said_by words room
+  pub few_words : many < 4 → Err FewWords ≡ said_by words room
   unfolding said_by line_refusal
   few_words l = rw (ne_eqb (length words) 0 (λ z. some_word (long ∙ z)), lt-ltb (length words) 4 (omega (arith, long, l)))
 
   module _ (l : 4 ≤ many) {wrong : ℕ} (found : wrong ≡ no_number_at words) where
-    pub no_number : wrong < many → line.Wrong (NoNumber (wrong + 1)) ≡ said_by words room
+    pub no_number : wrong < many → Err (NoNumber (wrong + 1)) ≡ said_by words room
     unfolding said_by line_refusal
     no_number w =
         rw (
           ne_eqb (length words) 0 (λ z. some_word (long ∙ z)),
           le-ltb (length words) 4 (omega (arith, long, l)),
           some_found (is_no_number words) (length words) wrong found (omega (arith, long, w)),
-        ) (ap (λ (n : ℕ). line.Wrong (NoNumber (n + 1))) found)
+        ) (ap (λ (n : ℕ). Err (NoNumber (n + 1))) found)
 
     module _ (all : many ≤ wrong) where
       pub all_numbers : no_number_at words ≡ length words
@@ -202,18 +201,18 @@ module _ (words : List (List ℕ)) (room : ℕ) {many : ℕ} (long : many ≡ le
       said_by_lem : {o : Option Fault} → first_row_of (head_tests words) ≡ o → said_by words room ≡ line_answer (or_later o (first_row_of (value_tests words room))) (head_in words)
       said_by_lem e = said ∙ ap (λ (p : Option Fault). line_answer (or_later p (first_row_of (value_tests words room))) (head_in words)) e
 
-      wrong_judged : (o : Option Fault) (h : Head) (f : Fault) → judged.Wrong f ≡ judged_as o h → o ≡ some f
+      wrong_judged : (o : Option Fault) (h : Head) (f : Fault) → Err f ≡ judged_as o h → o ≡ some f
       wrong_judged (some g) h f e = cc
       wrong_judged none h f e = clash (cc)
 
-      pub head_wrong : (f : Fault) → judged.Wrong f ≡ judged_as (first_row_of (head_tests words)) (head_in words) → line.Wrong f ≡ said_by words room
+      pub head_wrong : (f : Fault) → Err f ≡ judged_as (first_row_of (head_tests words)) (head_in words) → Err f ≡ said_by words room
       head_wrong f e = sym (said_by_lem (wrong_judged (first_row_of (head_tests words)) (head_in words) f e))
 
-      right_judged : (o : Option Fault) (h g : Head) → judged.Right g ≡ judged_as o h → (g ≡ h) × (o ≡ none)
+      right_judged : (o : Option Fault) (h g : Head) → Ok g ≡ judged_as o h → (g ≡ h) × (o ≡ none)
       right_judged (some f) h g e = clash (cc)
       right_judged none h g e = (cc, refl)
 
-      module _ (h : Head) (e : judged.Right h ≡ judged_as (first_row_of (head_tests words)) (head_in words)) where
+      module _ (h : Head) (e : Ok h ≡ judged_as (first_row_of (head_tests words)) (head_in words)) where
         pub head_right : Headed words h
         head_right =
             let so = right_judged (first_row_of (head_tests words)) (head_in words) h e in

@@ -1,5 +1,6 @@
 -- What it means that no test of a line tells, and what a line that reads as a setting says.
 -- Assumes nothing.
+use Rattle.std.specs.Prelude.{Ok, Some, None}
 use mathlib.Core.Path.{◌≡◌, refl, sym, ap, ◌∙◌}
 use mathlib.Core.Bool.{Bool, true, false, cond, not, ◌&&◌}
 use mathlib.Core.List.{List, [], ◌∷◌, ◌++◌}
@@ -29,8 +30,7 @@ use Rattle.sheet_line.specs.Line.{name_of, kind_of, word_at, small_at, kind_in, 
 use Rattle.sheet_line.specs.Line.{line_tests, line_refusal, line_answer, said_by, room_after, Reads}
 use Rattle.sheet_line.specs.declared.Fault.{Fault}
 use Rattle.sheet_line.specs.declared.Fault.TheVariants.{FewWords}
-use Rattle.sheet_line.specs.declared.Line.{Line}
-use Rattle.sheet_line.specs.declared.Line.TheVariants as line
+use Rattle.sheet_line.specs.Answers.{Line}
 
 -- ---- kinds and their names
 
@@ -151,15 +151,15 @@ sound_none words room s =
     (passed _ (le-ltb _ _ s.roomy) refl))))))))
 
 -- so a line says a setting exactly where no test tells, and it is the one that its first words name
-pub sound_said : (words : List (List ℕ)) (room : ℕ) → Sound words room → said_by words room ≡ line.Is (record_as (head_in words))
+pub sound_said : (words : List (List ℕ)) (room : ℕ) → Sound words room → said_by words room ≡ Ok (Some (record_as (head_in words)))
 unfolding said_by
 sound_said words room s = rw (ne_eqb (length words) 0 (λ z. omega (arith, z, s.four)), sound_none words room s)
 
-pub said_sound : (words : List (List ℕ)) (room : ℕ) (r : Record) → line.Is r ≡ said_by words room → Sound words room × (r ≡ record_as (head_in words))
+pub said_sound : (words : List (List ℕ)) (room : ℕ) (r : Record) → Ok (Some r) ≡ said_by words room → Sound words room × (r ≡ record_as (head_in words))
 unfolding said_by
 said_sound words room r e = go (eqb (length words) 0) (line_refusal words room) refl e
   where
-    go : (t : Bool) (o : Option Fault) → line_refusal words room ≡ o → line.Is r ≡ cond t line.Nothing (line_answer o (head_in words))
+    go : (t : Bool) (o : Option Fault) → line_refusal words room ≡ o → Ok (Some r) ≡ cond t (Ok None) (line_answer o (head_in words))
         → Sound words room × (r ≡ record_as (head_in words))
     go true o n e = clash (cc)
     go false (some f) n e = clash (cc)
@@ -208,10 +208,10 @@ pub record ReadFrom (words : List (List ℕ)) (r : Record) (room' : List ℕ) : 
   pub named : r.head ≡ head_in words
   pub bytes : Bytes (value_in words)
 
-pub read_sound : (text room : List ℕ) (r : Record) (room' : List ℕ) → Reads text room (line.Is r) room' → Sound (words_of text) (length room)
+pub read_sound : (text room : List ℕ) (r : Record) (room' : List ℕ) → Reads text room (Ok (Some r)) room' → Sound (words_of text) (length room)
 read_sound text room r room' reads = (said_sound (words_of text) (length room) r reads.0).0
 
-pub read_allowed : (text room : List ℕ) (r : Record) (room' : List ℕ) → Reads text room (line.Is r) room' → ReadFrom (words_of text) r room'
+pub read_allowed : (text room : List ℕ) (r : Record) (room' : List ℕ) → Reads text room (Ok (Some r)) room' → ReadFrom (words_of text) r room'
 unfolding head_in
 read_allowed text room r room' reads =
     record {

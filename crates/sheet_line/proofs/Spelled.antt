@@ -1,5 +1,6 @@
 -- The laws of a line that is written.
 -- Assumes nothing.
+use Rattle.std.specs.Prelude.{Ok, Err}
 use mathlib.Core.Path.{◌≡◌, refl}
 use mathlib.Core.List.{List, [], ◌∷◌}
 use Prim.Native.Nat.{ℕ, zero, suc, ◌+◌, ◌*◌, ◌≤◌}
@@ -11,8 +12,7 @@ use Rattle.text.specs.Text.{ascii, decimal, decimal_by}
 use Rattle.text.proofs.Laws.{decimal_short}
 use Rattle.values.specs.Values.{size_of, is_signed, is_kind, natural, value_at, element_of, read_refusal, read_value}
 use Rattle.values.specs.declared.Value.TheVariants.{Natural, Negative}
-use Rattle.values.specs.declared.Reading.{Reading}
-use Rattle.values.specs.declared.Reading.TheVariants as reading
+use Rattle.values.specs.Answers.{Reading}
 use Rattle.numerals.specs.Numerals.{spelt}
 use Rattle.setting.specs.declared.Head.{Head}
 use Rattle.setting.specs.Setting.{head, Setting, setting}
@@ -23,9 +23,9 @@ use Rattle.sheet_line.specs.Line.{name_of, element_text, elements_from, line_of,
 
 element_short : (r : Reading) → length (element_text r) ≤ 21
 unfolding element_text spelt
-element_short (reading.Is (Natural n)) = omega (arith, decimal_short n)
-element_short (reading.Is (Negative n)) = omega (arith, decimal_short (suc n))
-element_short (reading.Refused f) = omega arith
+element_short (Ok (Natural n)) = omega (arith, decimal_short n)
+element_short (Ok (Negative n)) = omega (arith, decimal_short (suc n))
+element_short (Err f) = omega arith
 
 elements_short : (kind : ℕ) (value : List ℕ) (k n : ℕ) → length (elements_from kind value k n) ≤ 22 * n
 unfolding elements_from

@@ -1,5 +1,6 @@
 -- The values of a line in bytes: one laid behind the other, and the first that does not fit.
 -- Assumes nothing.
+use Rattle.std.specs.Prelude.{Ok, Err}
 use mathlib.Core.Path.{◌≡◌, refl, sym, ap, ap₂, ◌∙◌}
 use mathlib.Core.Bool.{Bool, true, false, not, true≢false}
 use mathlib.Core.List.{List, [], ◌∷◌, ◌++◌}
@@ -16,7 +17,6 @@ use Rattle.lent.proofs.Laws.{over_at_none, over_at_append, over_at_zero, length-
 use Rattle.rows.proofs.Laws.{clash, told_true}
 use Rattle.values.specs.declared.Value.{Value}
 use Rattle.values.specs.declared.Fault.{Fault}
-use Rattle.values.specs.declared.Stored.TheVariants as stored
 use Rattle.values.specs.Values.{size_of, fits, is_kind, bytes_of, stored_at, stored_value, stored_refusal}
 use Rattle.values.proofs.Bytes.{length-bytes_of}
 use Rattle.values.proofs.Refusals.{decides_kind, stored_none, stored_as, stored_refused}
@@ -48,10 +48,10 @@ module _ (kind : ℕ) (word : List ℕ) (l : 1 ≤ kind) (h : kind ≤ 7) {read 
     same_value_lem : value_of word ≡ value
     same_value_lem = (numeral_is word value (sym read_is ∙ is)).1
 
-    pub value_fits : {n : ℕ} → stored_value kind value ≡ stored.As n → true ≡ fits kind (value_of word)
+    pub value_fits : {n : ℕ} → stored_value kind value ≡ Ok n → true ≡ fits kind (value_of word)
     value_fits {n} e = rw same_value_lem (sym (stored_none kind value (stored_as kind value n e).0).1)
 
-    pub value_laid : {n size : ℕ} (at : ℕ) (room : List ℕ) {part : List ℕ} → stored_value kind value ≡ stored.As n → size ≡ size_of kind → at ≤ length room
+    pub value_laid : {n size : ℕ} (at : ℕ) (room : List ℕ) {part : List ℕ} → stored_value kind value ≡ Ok n → size ≡ size_of kind → at ≤ length room
         → part ≡ over (bytes_of size n) (take (length room - at) (drop at room))
         → take at room ++ (part ++ drop (length room - at) (drop at room)) ≡ over_at at (value_bytes kind word) room
     value_laid {n} {size} at room {part} e s within laid =
@@ -59,7 +59,7 @@ module _ (kind : ℕ) (word : List ℕ) (l : 1 ≤ kind) (h : kind ≤ 7) {read 
         ap₂ bytes_of s (stored_as kind value n e).1 ∙ ap (λ (v : Value). bytes_of (size_of kind) (stored_at (size_of kind) v)) (sym same_value_lem) in
         lay_part at (bytes_of size n) room part within laid ∙ ap (λ (xs : List ℕ). over_at at xs room) bytes
 
-    pub value_refused : (f : Fault) → stored_value kind value ≡ stored.Refused f → false ≡ fits kind (value_of word)
+    pub value_refused : (f : Fault) → stored_value kind value ≡ Err f → false ≡ fits kind (value_of word)
     value_refused f e = rw same_value_lem (sym (refused_unfit (fits kind value) refl))
       where
         refused_unfit : (t : Bool) → fits kind value ≡ t → fits kind value ≡ false

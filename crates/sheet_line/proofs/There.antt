@@ -1,5 +1,6 @@
 -- There: a line reads as the setting that it was written for.
 -- Assumes nothing.
+use Rattle.std.specs.Prelude.{Ok, Some}
 use mathlib.Core.Path.{◌≡◌, refl, sym, ap, ap₂, ◌∙◌}
 use mathlib.Core.Bool.{Bool, true, false}
 use mathlib.Core.List.{List, []}
@@ -16,7 +17,6 @@ use Rattle.rows.proofs.Laws.{done_exactly}
 use Rattle.text.specs.Text.{decimal}
 use Rattle.values.specs.declared.Value.{Value}
 use Rattle.values.specs.declared.Value.TheVariants.{Natural, Negative}
-use Rattle.values.specs.declared.Reading.TheVariants as reading
 use Rattle.values.specs.Values.{size_of, is_signed, fits, Holds, Bytes, bytes_of, stored_at, natural, value_at, element_of}
 use Rattle.values.specs.Values.{NoKind, BadLength, NoElement, read_rows, read_refusal, read_value}
 use Rattle.values.proofs.Sized.{size_of_kind}
@@ -31,8 +31,7 @@ use Rattle.sheet.specs.Sheet.{record_as}
 use Rattle.sheet_line.specs.Words.{words_of}
 use Rattle.sheet_line.specs.Line.{name_of, kind_of, word_at, small_at, kind_in, head_in, bytes_in, value_in}
 use Rattle.sheet_line.specs.Line.{said_by, room_after, element_text, line_of, Canonical, Reads, Writes}
-use Rattle.sheet_line.specs.declared.Line.{Line}
-use Rattle.sheet_line.specs.declared.Line.TheVariants as line
+use Rattle.sheet_line.specs.Answers.{Line}
 use Rattle.sheet_line.proofs.Sound.{kind_of_name, Sound, sound_said, read_allowed}
 use Rattle.sheet_line.proofs.Written.{texts_from, words_for, length_texts, text_at, line_joined, written, line_words}
 
@@ -55,7 +54,7 @@ unfolding length_of
 proper_length s p = p.many
 
 -- a setting that was read from a line is one
-pub read_proper : (text room : List ℕ) (r : Record) (room' : List ℕ) → Reads text room (line.Is r) room' → Proper (setting r.head (take r.size room'))
+pub read_proper : (text room : List ℕ) (r : Record) (room' : List ℕ) → Reads text room (Ok (Some r)) room' → Proper (setting r.head (take r.size room'))
 read_proper text room r room' reads =
     let f = read_allowed text room r room' reads in
     record { allowed = f.allowed; register = f.register; many = rw f.laid f.many; bytes = rw f.laid f.bytes }
@@ -87,7 +86,7 @@ readable kind count value low high many k h =
     )
 
 read_at : (kind count : ℕ) (value : List ℕ) → 1 ≤ kind → kind ≤ 7 → length value ≡ count * size_of kind
-    → (k : ℕ) → k < count → read_value kind value k ≡ reading.Is (value_at (is_signed kind) (size_of kind) (natural (element_of (size_of kind) value k)))
+    → (k : ℕ) → k < count → read_value kind value k ≡ Ok (value_at (is_signed kind) (size_of kind) (natural (element_of (size_of kind) value k)))
 unfolding read_value
 read_at kind count value low high many k h = rw (readable kind count value low high many k h)
 
@@ -97,7 +96,7 @@ record Tells (kind : ℕ) (bytes word : List ℕ) : Type 0 where
   fitting : fits kind (value_of word) ≡ true
   stored : bytes_of (size_of kind) (stored_at (size_of kind) (value_of word)) ≡ bytes
 
-tells : (kind : ℕ) (value : List ℕ) (k : ℕ) (v : Value) → 1 ≤ kind → kind ≤ 7 → Bytes value → read_value kind value k ≡ reading.Is v
+tells : (kind : ℕ) (value : List ℕ) (k : ℕ) (v : Value) → 1 ≤ kind → kind ≤ 7 → Bytes value → read_value kind value k ≡ Ok v
     → Tells kind (element_of (size_of kind) value k) (element_text (read_value kind value k))
 unfolding element_text
 tells kind value k v low high each e =
@@ -189,9 +188,9 @@ words_sound s p room h =
 -- ---- a line reads back as the setting that it was written for
 
 pub line_reads : (s : Setting) → Proper s → (room : List ℕ) → length_of s.named ≤ length room
-    → said_by (words_of (line_of s)) (length room) ≡ line.Is (record_as s.named)
+    → said_by (words_of (line_of s)) (length room) ≡ Ok (Some (record_as s.named))
 line_reads s p room h =
-    rw (line_words s) (sound_said (words_for s) (length room) (words_sound s p (length room) h) ∙ ap (λ (hd : Head). line.Is (record_as hd)) (head_back s p))
+    rw (line_words s) (sound_said (words_for s) (length room) (words_sound s p (length room) h) ∙ ap (λ (hd : Head). Ok (Some (record_as hd))) (head_back s p))
 
 pub line_value : (s : Setting) → Proper s → value_in (words_of (line_of s)) ≡ s.value
 unfolding value_in
@@ -212,7 +211,7 @@ line_value s p =
     (take_all (s.named.count * size_of s.named.kind) s.value (omega (arith, proper_length s p)))
 
 pub reads_back : (s : Setting) → Proper s → (room : List ℕ) → length_of s.named ≤ length room → (r : Line) (room' : List ℕ)
-    → Reads (line_of s) room r room' → (r ≡ line.Is (record_as s.named)) × (room' ≡ over s.value room)
+    → Reads (line_of s) room r room' → (r ≡ Ok (Some (record_as s.named))) × (room' ≡ over s.value room)
 reads_back s p room h r room' reads =
     let says = line_reads s p room h in (
       reads.0 ∙ says,
@@ -222,7 +221,7 @@ reads_back s p room h r room' reads =
 -- so of the calls: what `write` put into a buffer, `read` reads
 pub written_reads : (h : Head) (value room : List ℕ) (n : ℕ) (room' : List ℕ) → Proper (setting h value) → Writes h value room n room' → n ≤ length room
     → (space : List ℕ) → length_of h ≤ length space → (r : Line) (space' : List ℕ)
-    → Reads (take n room') space r space' → (r ≡ line.Is (record_as h)) × (space' ≡ over value space)
+    → Reads (take n room') space r space' → (r ≡ Ok (Some (record_as h))) × (space' ≡ over value space)
 written_reads h value room n room' p w l space long r space' reads =
     reads_back (setting h value) p space long r space' (rw (written (setting h value) room n room' w l) at reads)
 

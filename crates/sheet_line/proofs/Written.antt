@@ -1,5 +1,6 @@
 -- The words that are written for a setting: they are the words of its line.
 -- Assumes nothing.
+use Rattle.std.specs.Prelude.{Ok, Err}
 use mathlib.Core.Path.{◌≡◌, refl, sym, ap, ◌∙◌, subst}
 use mathlib.Core.Bool.{Bool, true, ◌&&◌}
 use mathlib.Core.List.{List, [], ◌∷◌, ◌++◌}
@@ -15,8 +16,7 @@ use Rattle.rows.proofs.Laws.{decides_le, decides_and, decides_set}
 use Rattle.text.specs.Text.{ascii, decimal}
 use Rattle.values.specs.declared.Value.{Value}
 use Rattle.values.specs.declared.Value.TheVariants.{Natural}
-use Rattle.values.specs.declared.Reading.{Reading}
-use Rattle.values.specs.declared.Reading.TheVariants as reading
+use Rattle.values.specs.Answers.{Reading}
 use Rattle.values.specs.Values.{read_value}
 use Rattle.numerals.specs.Numerals.{spelt}
 use Rattle.numerals.proofs.Laws.{spelt_bytes, spelt_some}
@@ -119,8 +119,8 @@ decimal_written n = spelt_written (Natural n)
 
 text_written : (r : Reading) → Written (element_text r)
 unfolding element_text are_ink
-text_written (reading.Is v) = spelt_written v
-text_written (reading.Refused f) = (omega arith, ink_told (ascii "?") refl)
+text_written (Ok v) = spelt_written v
+text_written (Err f) = (omega arith, ink_told (ascii "?") refl)
 
 texts_written : (kind : ℕ) (value : List ℕ) (k n : ℕ) → Every Written (texts_from kind value k n)
 texts_written kind value k zero = tt

@@ -1,23 +1,21 @@
 -- One line of a sheet's text: what it says, what can be wrong with it, and the line that is written for a setting. docs/SHEETS.md.
 -- Assumes nothing.
-use Rattle.std.specs.Prelude.{◌≡◌, Bool, true, false, cond, not, ◌&&◌, List, [], ◌∷◌, ◌++◌, ◌≢◌, ℕ, zero, suc, ◌+◌, ◌≤◌, ◌<◌, eqb, leb, ltb, length, get_or, take, drop}
+use Rattle.std.specs.Prelude.{◌≡◌, Bool, true, false, cond, not, ◌&&◌, List, [], ◌∷◌, ◌++◌, ◌≢◌, ℕ, zero, suc, ◌+◌, ◌≤◌, ◌<◌, eqb, leb, ltb, length, get_or, take, drop, Ok, Err, None, Some}
 use Rattle.std.proofs.Math.Option.{Option, some, none}
 use Rattle.first.specs.First.{first_place}
 use Rattle.lent.specs.Lent.{over}
 use Rattle.rows.specs.Rows.{Row, row, Test, test, first_row_of}
 use Rattle.text.specs.Text.{ascii, decimal}
 use Rattle.values.specs.Values.{size_of, fits, Unfit, bytes_of, stored_at, read_value}
-use Rattle.values.specs.declared.Reading.{Reading}
-use Rattle.values.specs.declared.Reading.TheVariants as reading
+use Rattle.values.specs.Answers.{Reading}
 use Rattle.numerals.specs.Numerals.{is_number, value_of, limited_to, spelt, is_shortest}
 use Rattle.setting.specs.declared.Head.{Head}
-use Rattle.setting.specs.Setting.{head, Setting, setting, length_of, Some, some_of, most_elements}
+use Rattle.setting.specs.Setting.{head, Setting, setting, length_of, Some as SomePlace, some_of, most_elements}
 use Rattle.sheet.specs.Sheet.{record_as}
 use Rattle.sheet_line.specs.Words.{same, words_of, joined}
 use Rattle.sheet_line.specs.declared.Fault.{Fault}
 use Rattle.sheet_line.specs.declared.Fault.TheVariants.{FewWords, NoNumber, NoModule, NoRegister, NoKind, BadCount, OtherCount, NotFitting, NoRoom}
-use Rattle.sheet_line.specs.declared.Line.{Line}
-use Rattle.sheet_line.specs.declared.Line.TheVariants as line
+use Rattle.sheet_line.specs.Answers.{Line}
 
 -- ---- "kinds by name (U16)": by kind, from 0 on, which is none
 
@@ -118,13 +116,13 @@ unfit_at words = first_place (is_unfit words) (small_at words 3)
 unfoldable pub line_rows : List (List ℕ) → List ℕ → List (Row Fault)
 line_rows words room =
     row (AreFew words) FewWords
-    ∷ row (Some (IsNoNumber words) (length words)) (NoNumber (no_number_at words + 1))
+    ∷ row (SomePlace (IsNoNumber words) (length words)) (NoNumber (no_number_at words + 1))
     ∷ row (IsNoModule words) NoModule
     ∷ row (IsNoRegister words) NoRegister
     ∷ row (IsNoKind words) NoKind
     ∷ row (IsBadCount words) BadCount
     ∷ row (AreOther words) OtherCount
-    ∷ row (Some (IsUnfit words) (small_at words 3)) (NotFitting (unfit_at words + 5))
+    ∷ row (SomePlace (IsUnfit words) (small_at words 3)) (NotFitting (unfit_at words + 5))
     ∷ row (IsNarrow words room) NoRoom
     ∷ []
 
@@ -180,25 +178,25 @@ fault_word (NotFitting k) = k
 fault_word NoRoom = 0
 
 abbrev pub line_answer : Option Fault → Head → Line
-line_answer (some f) h = line.Wrong f
-line_answer none h = line.Is (record_as h)
+line_answer (some f) h = Err f
+line_answer none h = Ok (Some (record_as h))
 
 -- "A line without a word says nothing."
 unfoldable pub said_by : List (List ℕ) → ℕ → Line
-said_by words room = cond (eqb (length words) 0) line.Nothing (line_answer (line_refusal words room) (head_in words))
+said_by words room = cond (eqb (length words) 0) (Ok None) (line_answer (line_refusal words room) (head_in words))
 
 -- what is wrong, and what says nothing, leaves every byte of the buffer
 abbrev pub room_after : Line → List ℕ → List ℕ → List ℕ
-room_after line.Nothing bytes room = room
-room_after (line.Wrong f) bytes room = room
-room_after (line.Is r) bytes room = over bytes room
+room_after (Ok None) bytes room = room
+room_after (Err f) bytes room = room
+room_after (Ok (Some r)) bytes room = over bytes room
 
 -- ---- the line of a setting
 
 -- an element of a value; a question mark where there is none of that kind
 unfoldable pub element_text : Reading → List ℕ
-element_text (reading.Is v) = spelt v
-element_text (reading.Refused f) = ascii "?"
+element_text (Ok v) = spelt v
+element_text (Err f) = ascii "?"
 
 -- the n values from element k on, a blank before each
 unfoldable pub elements_from : ℕ → List ℕ → ℕ → ℕ → List ℕ

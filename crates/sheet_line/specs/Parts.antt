@@ -1,6 +1,6 @@
 -- What the functions inside promise each other.
 -- Assumes nothing.
-use Rattle.std.specs.Prelude.{◌≡◌, Bool, true, not, List, [], ℕ, ◌<◌, length, get_or, take}
+use Rattle.std.specs.Prelude.{◌≡◌, Bool, true, not, List, [], ℕ, ◌<◌, length, get_or, take, Ok, Err}
 use Rattle.std.proofs.Math.Option.{Option, some, none}
 use Rattle.first.specs.First.{first_place}
 use Rattle.lent.specs.Lent.{over}
@@ -11,8 +11,7 @@ use Rattle.setting.specs.declared.Head.{Head}
 use Rattle.sheet_line.specs.Line.{small_at, kind_in, head_in, bytes_in, no_number_at, head_tests}
 use Rattle.sheet_line.specs.declared.Fault.{Fault}
 use Rattle.sheet_line.specs.declared.reading.Four.{Four}
-use Rattle.sheet_line.specs.declared.reading.Judged.{Judged}
-use Rattle.sheet_line.specs.declared.reading.Judged.TheVariants as judged
+use Rattle.sheet_line.specs.Answers.{Judged}
 
 -- what the first four words say
 abbrev pub Says : List (List ℕ) → Four → Type 0
@@ -21,8 +20,8 @@ Says words four =
 
 -- what is wrong with them, and else what they name
 abbrev pub judged_as : Option Fault → Head → Judged
-judged_as (some f) h = judged.Wrong f
-judged_as none h = judged.Right h
+judged_as (some f) h = Err f
+judged_as none h = Ok h
 
 -- n words are numbers
 abbrev pub AreNumbers : List (List ℕ) → ℕ → Type 0

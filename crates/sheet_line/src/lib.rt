@@ -35,15 +35,8 @@ pub enum Fault {
     NoRoom,
 }
 
-// What a line says.
-#[derive(Clone, Copy)]
-pub enum Line {
-    // nothing: it has no words
-    Nothing,
-    // a setting, its value in the lent buffer
-    Is(Record),
-    Wrong(Fault),
-}
+// What a line says: a setting, its value in the lent buffer, or `None` where it has no words.
+pub type Line = Result<Option<Record>, Fault>;
 
 // The paper's number for what is wrong, 0 where the papers have none for it.
 pub fn number(fault: Fault) -> u8

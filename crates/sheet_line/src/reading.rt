@@ -13,7 +13,6 @@ use crate::{Fault, Line, words};
 use numerals::Numeral;
 use setting::Head;
 use sheet::Record;
-use values::Stored;
 
 // What the first four words say, and where the values begin. A number that is none of a byte is 256.
 #[derive(Clone, Copy)]
@@ -32,12 +31,6 @@ struct Behind {
     at: usize,
 }
 
-#[derive(Clone, Copy)]
-enum Judged {
-    Right(Head),
-    Wrong(Fault),
-}
-
 // What the words of a line say. The value of a setting is laid over the room's first bytes.
 pub(crate) fn read_words(text: &[u8], room: &mut [u8]) -> Line
     ensures answer { result ≡ said_by (words_in text.now) (length room.old) }
@@ -45,20 +38,18 @@ pub(crate) fn read_words(text: &[u8], room: &mut [u8]) -> Line
 {
     let many = count_words(text);
     if many == 0 {
-        return Line::Nothing;
+        return Ok(None);
     }
     if many < 4 {
-        return Line::Wrong(Fault::FewWords);
+        return Err(Fault::FewWords);
     }
     let wrong = first_wrong(text, many);
     if wrong < many {
-        return Line::Wrong(Fault::NoNumber(wrong + 1));
+        return Err(Fault::NoNumber(wrong + 1));
     }
     let four = first_four(text);
-    match judge(four, many) {
-        Judged::Wrong(fault) => Line::Wrong(fault),
-        Judged::Right(head) => read_values(text, four.at, head, room),
-    }
+    let head = judge(four, many)?;
+    read_values(text, four.at, head, room)
 }
 
 fn count_words(text: &[u8]) -> usize
@@ -132,24 +123,24 @@ fn small(text: &[u8], at: usize) -> Behind
 }
 
 // What is wrong with the first four words, or with how many follow; and else what they name.
-fn judge(four: Four, many: usize) -> Judged
+fn judge(four: Four, many: usize) -> Result<Head, Fault>
     requires { 4 ≤ many }
     ensures { (words : List (List ℕ)) → Says words four → many ≡ length words → result ≡ judged_as (first_row_of (head_tests words)) (head_in words) }
 {
     if four.unit < 1 {
-        return Judged::Wrong(Fault::NoModule);
+        return Err(Fault::NoModule);
     }
     if 160 < four.unit {
-        return Judged::Wrong(Fault::NoModule);
+        return Err(Fault::NoModule);
     }
     if 255 < four.register {
-        return Judged::Wrong(Fault::NoRegister);
+        return Err(Fault::NoRegister);
     }
     if four.kind == 0 {
-        return Judged::Wrong(Fault::NoKind);
+        return Err(Fault::NoKind);
     }
     if 255 < four.count {
-        return Judged::Wrong(Fault::BadCount);
+        return Err(Fault::BadCount);
     }
     let head = Head {
         unit: four.unit as u8,
@@ -159,11 +150,11 @@ fn judge(four: Four, many: usize) -> Judged
     };
     if setting::is_allowed(head) {
         if many - 4 == four.count as usize {
-            return Judged::Right(head);
+            return Ok(head);
         }
-        return Judged::Wrong(Fault::OtherCount);
+        return Err(Fault::OtherCount);
     }
-    Judged::Wrong(Fault::BadCount)
+    Err(Fault::BadCount)
 }
 
 // The values of a setting, which begin at a place.
@@ -176,17 +167,17 @@ fn read_values(text: &[u8], at: usize, head: Head, room: &mut [u8]) -> Line
     let mut space = [0u8; 240];
     let fitting = store_values(text, at, head, &mut space);
     if fitting < head.count as usize {
-        return Line::Wrong(Fault::NotFitting(fitting + 5));
+        return Err(Fault::NotFitting(fitting + 5));
     }
     let size = setting::measure(head);
     if room.len() < size {
-        return Line::Wrong(Fault::NoRoom);
+        return Err(Fault::NoRoom);
     }
     lent::lay_at(&space[0..size], room, 0);
-    Line::Is(Record {
+    Ok(Some(Record {
         head: head,
         size: size,
-    })
+    }))
 }
 
 // Lays the bytes of the values behind each other and answers how many there are before the first
@@ -221,11 +212,11 @@ fn store(word: &[u8], kind: u8, space: &mut [u8], at: usize) -> bool
 {
     match numerals::read(word) {
         Numeral::Is(value) => match values::as_stored(kind, value) {
-            Stored::As(number) => {
+            Ok(number) => {
                 values::store(number, values::size(kind), &mut space[at..]);
                 true
             }
-            Stored::Refused(_) => false,
+            Err(_) => false,
         },
         Numeral::Huge => false,
         Numeral::Nothing => false,

@@ -6,7 +6,7 @@ ghost use Rattle.values.specs.Values.{read_value};
 ghost use Rattle.sheet_line.specs.Line.{name_of, element_text, elements_from};
 
 use setting::Head;
-use values::{Reading, Value};
+use values::Value;
 
 // A number.
 pub(crate) fn digits(n: u64, room: &mut [u8], at: usize) -> usize
@@ -60,14 +60,12 @@ fn element_at(kind: u8, value: &[u8], k: u8, room: &mut [u8], at: usize) -> usiz
     ensures { Puts (32 ∷ element_text (read_value kind value.now k)) at room.old result room.new × (result ≤ at + 22) }
 {
     match values::read(kind, value, k as u64) {
-        Reading::Is(element) => match element {
-            Value::Natural(n) => field(n, room, at),
-            Value::Negative(n) => {
-                let a = word(b" -", room, at);
-                digits(n + 1, room, a)
-            }
-        },
-        Reading::Refused(_) => word(b" ?", room, at),
+        Ok(Value::Natural(n)) => field(n, room, at),
+        Ok(Value::Negative(n)) => {
+            let a = word(b" -", room, at);
+            digits(n + 1, room, a)
+        }
+        Err(_) => word(b" ?", room, at),
     }
 }
 

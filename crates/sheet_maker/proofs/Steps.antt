@@ -1,5 +1,6 @@
 -- What each line does to what was gathered, as the functions have it.
 -- Assumes nothing.
+use Rattle.std.specs.Prelude.{Ok, Err, Some, None}
 use mathlib.Core.Path.{◌≡◌, refl, sym, ap, ◌∙◌}
 use mathlib.Core.Bool.{true, false}
 use mathlib.Core.List.{List, [], ◌∷◌, ◌++◌, append-nil, append_assoc}
@@ -22,8 +23,7 @@ use Rattle.sheet_writer.specs.Writer.{rows_for}
 use Rattle.sheet_line.specs.Words.{words_of}
 use Rattle.sheet_line.specs.Line.{fault_word, said_by, setting_in, Reads}
 use Rattle.sheet_line.proofs.Sound.{ReadFrom, read_allowed}
-use Rattle.sheet_line.specs.declared.Line.{Line}
-use Rattle.sheet_line.specs.declared.Line.TheVariants.{Nothing, Is, Wrong}
+use Rattle.sheet_line.specs.Answers.{Line}
 use Rattle.sheet_line.specs.declared.Fault.{Fault}
 use Rattle.sheet_maker.specs.Maker.{lines_of, said, setting_of, settings_from, settings_of, report_of, many_after, nearest, reports_from, reports_of, key_of}
 use Rattle.sheet_maker.specs.Gathering.{Tells, Reported, Put, Ready, Taken, Gathered}
@@ -71,7 +71,7 @@ length_one_value s = ap length (append-nil s.value)
 -- ---- a line taken
 
 -- it says nothing
-pub taken_nothing : (number : ℕ) (page : Page) (rows values list : List ℕ) → Ready number page → Taken number Nothing [] page page rows rows values values list list
+pub taken_nothing : (number : ℕ) (page : Page) (rows values list : List ℕ) → Ready number page → Taken number (Ok None) [] page page rows rows values values list list
 unfolding rows_for values_for
 taken_nothing number page rows values list ready =
     record {
@@ -90,7 +90,7 @@ taken_nothing number page rows values list ready =
 
 -- it is wrong in itself
 pub taken_wrong : (number : ℕ) (f : Fault) (page page' : Page) (rows values list list' : List ℕ) → Ready number page → Reported page page'
-    → Tells (number ∷ fault_word f ∷ key_of f ∷ []) page.told list page'.told list' → Taken number (Wrong f) [] page page' rows rows values values list list'
+    → Tells (number ∷ fault_word f ∷ key_of f ∷ []) page.told list page'.told list' → Taken number (Err f) [] page page' rows rows values values list list'
 unfolding rows_for values_for
 taken_wrong number f page page' rows values list list' ready now told =
     record {
@@ -108,12 +108,12 @@ taken_wrong number f page page' rows values list list' ready now told =
     }
 
 -- 128 settings stand before it
-many_report : (number many : ℕ) (before : Head) (r : Record) → 128 ≤ many → report_of number many before (Is r) ≡ number ∷ 0 ∷ 9 ∷ []
+many_report : (number many : ℕ) (before : Head) (r : Record) → 128 ≤ many → report_of number many before (Ok (Some r)) ≡ number ∷ 0 ∷ 9 ∷ []
 many_report number many before r h = rw (le-leb 128 many h) refl
 
 pub taken_many : (number : ℕ) (r : Record) (settings : List Setting) (page named page' : Page) (rows values list list' : List ℕ) → Ready number page → 128 ≤ page.many
     → named.many ≡ page.many → named.size ≡ page.size → named.before ≡ r.head → named.wrong ≡ page.wrong → named.told ≡ page.told → Reported named page'
-    → Tells (number ∷ 0 ∷ 9 ∷ []) named.told list page'.told list' → Taken number (Is r) settings page page' rows rows values values list list'
+    → Tells (number ∷ 0 ∷ 9 ∷ []) named.told list page'.told list' → Taken number (Ok (Some r)) settings page page' rows rows values values list list'
 taken_many number r settings page named page' rows values list list' ready full m s b w t now told =
     record {
       many = rw (le-leb 128 page.many full) (now.many ∙ m);
@@ -143,12 +143,12 @@ put_values page page' h value rows rows' values values' p rest =
     (over_at_append page.size value rest values ∙ ap (λ (l : List ℕ). over_at page.size l values) (sym (one_value (setting h value) rest)))
 
 -- it stands above the one before
-above_report : (number many : ℕ) (before : Head) (r : Record) → many < 128 → is_above before r.head ≡ true → report_of number many before (Is r) ≡ []
+above_report : (number many : ℕ) (before : Head) (r : Record) → many < 128 → is_above before r.head ≡ true → report_of number many before (Ok (Some r)) ≡ []
 above_report number many before r h e = rw (lt-leb 128 many h, e) refl
 
 pub taken_put : (number : ℕ) (r : Record) (page page' : Page) (value rows rows' values values' list : List ℕ) → Ready number page → page.many < 128 → length value ≤ 240
     → is_above page.before r.head ≡ true → Put page page' r.head value rows rows' values values'
-    → Taken number (Is r) (setting r.head value ∷ []) page page' rows rows' values values' list list
+    → Taken number (Ok (Some r)) (setting r.head value ∷ []) page page' rows rows' values values' list list
 taken_put number r page page' value rows rows' values values' list ready less fits above p =
     record {
       many = rw (lt-leb 128 page.many less) (p.many ∙ add-one page.many);
@@ -165,13 +165,13 @@ taken_put number r page page' value rows rows' values values' list ready less fi
     }
 
 -- it does not
-order_report : (number many : ℕ) (before : Head) (r : Record) → many < 128 → is_above before r.head ≡ false → report_of number many before (Is r) ≡ number ∷ 0 ∷ 10 ∷ []
+order_report : (number many : ℕ) (before : Head) (r : Record) → many < 128 → is_above before r.head ≡ false → report_of number many before (Ok (Some r)) ≡ number ∷ 0 ∷ 10 ∷ []
 order_report number many before r h e = rw (lt-leb 128 many h, e) refl
 
 pub taken_order : (number : ℕ) (r : Record) (page put page' : Page) (value rows rows' values values' list list' : List ℕ) → Ready number page → page.many < 128
     → length value ≤ 240 → is_above page.before r.head ≡ false → Put page put r.head value rows rows' values values' → Reported put page'
     → Tells (number ∷ 0 ∷ 10 ∷ []) put.told list page'.told list'
-    → Taken number (Is r) (setting r.head value ∷ []) page page' rows rows' values values' list list'
+    → Taken number (Ok (Some r)) (setting r.head value ∷ []) page page' rows rows' values values' list list'
 taken_order number r page put page' value rows rows' values values' list list' ready less fits below p now told =
     record {
       many = rw (lt-leb 128 page.many less) (now.many ∙ (p.many ∙ add-one page.many));
@@ -193,41 +193,41 @@ pub line_said : (line room : List ℕ) (r what : Line) → length room ≡ 240 �
 line_said line room r what long is so = sym (ap (said_by (words_of line)) long) ∙ (sym is ∙ so)
 
 -- what was read is a setting
-read_so : (line room : List ℕ) (answer : Line) (r : Record) (room' : List ℕ) → answer ≡ Is r → Reads line room answer room' → ReadFrom (words_of line) r room'
+read_so : (line room : List ℕ) (answer : Line) (r : Record) (room' : List ℕ) → answer ≡ Ok (Some r) → Reads line room answer room' → ReadFrom (words_of line) r room'
 read_so line room answer r room' is reads = read_allowed line room r room' (sym is ∙ reads.0, reads.1)
 
-pub setting_read : (line room : List ℕ) (answer : Line) (r : Record) (room' : List ℕ) → answer ≡ Is r → Reads line room answer room'
+pub setting_read : (line room : List ℕ) (answer : Line) (r : Record) (room' : List ℕ) → answer ≡ Ok (Some r) → Reads line room answer room'
     → setting r.head (take r.size room') ≡ setting_in (words_of line)
 unfolding setting_in
 setting_read line room answer r room' is reads =
     let so : ReadFrom (words_of line) r room' = read_so line room answer r room' is reads in
     rw (so.laid, so.named) refl
 
-pub value_short : (line room : List ℕ) (answer : Line) (r : Record) (room' : List ℕ) → answer ≡ Is r → Reads line room answer room' → r.size ≤ 240
+pub value_short : (line room : List ℕ) (answer : Line) (r : Record) (room' : List ℕ) → answer ≡ Ok (Some r) → Reads line room answer room' → r.size ≤ 240
 value_short line room answer r room' is reads =
     let so : ReadFrom (words_of line) r room' = read_so line room answer r room' is reads in
     rw so.size (length_allowed r.head so.allowed)
 
 -- ---- so the line was taken as it says
 
-pub nothing_taken : (number : ℕ) (line room : List ℕ) (answer : Line) (page : Page) (rows values list : List ℕ) → length room ≡ 240 → answer ≡ Nothing
+pub nothing_taken : (number : ℕ) (line room : List ℕ) (answer : Line) (page : Page) (rows values list : List ℕ) → length room ≡ 240 → answer ≡ Ok None
     → answer ≡ said_by (words_of line) (length room) → Ready number page → Taken number (said line) (setting_of (said line) line) page page rows rows values values list list
 nothing_taken number line room answer page rows values list long is so ready =
-    rw (line_said line room answer Nothing long so is) (taken_nothing number page rows values list ready)
+    rw (line_said line room answer (Ok None) long so is) (taken_nothing number page rows values list ready)
 
 pub wrong_taken : (number : ℕ) (line room : List ℕ) (answer : Line) (f : Fault) (word key : ℕ) (page page' : Page) (rows values list list' : List ℕ) → length room ≡ 240
-    → answer ≡ Wrong f → answer ≡ said_by (words_of line) (length room) → word ≡ fault_word f → key ≡ key_of f → Ready number page → Reported page page'
+    → answer ≡ Err f → answer ≡ said_by (words_of line) (length room) → word ≡ fault_word f → key ≡ key_of f → Ready number page → Reported page page'
     → Tells (number ∷ word ∷ key ∷ []) page.told list page'.told list'
     → Taken number (said line) (setting_of (said line) line) page page' rows rows values values list list'
 wrong_taken number line room answer f word key page page' rows values list list' long is so w k ready now told =
-    rw (line_said line room answer (Wrong f) long so is) (taken_wrong number f page page' rows values list list' ready now (rw (w, k) at told))
+    rw (line_said line room answer (Err f) long so is) (taken_wrong number f page page' rows values list list' ready now (rw (w, k) at told))
 
 pub setting_taken : (number : ℕ) (line room : List ℕ) (answer : Line) (r : Record) (room' : List ℕ) (page page' : Page) (rows rows' values values' list list' : List ℕ)
-    → length room ≡ 240 → answer ≡ Is r → Reads line room answer room'
-    → Taken number (Is r) (setting r.head (take (r.size - 0) room') ∷ []) page page' rows rows' values values' list list'
+    → length room ≡ 240 → answer ≡ Ok (Some r) → Reads line room answer room'
+    → Taken number (Ok (Some r)) (setting r.head (take (r.size - 0) room') ∷ []) page page' rows rows' values values' list list'
     → Taken number (said line) (setting_of (said line) line) page page' rows rows' values values' list list'
 setting_taken number line room answer r room' page page' rows rows' values values' list list' long is reads taken =
-    rw (line_said line room answer (Is r) long reads.0 is) (rw (sub-zero r.size, setting_read line room answer r room' is reads) at taken)
+    rw (line_said line room answer (Ok (Some r)) long reads.0 is) (rw (sub-zero r.size, setting_read line room answer r room' is reads) at taken)
 
 -- no more than was asked for
 pub part_short : (n : ℕ) (room : List ℕ) → n ≤ 240 → length (take (n - 0) room) ≤ 240

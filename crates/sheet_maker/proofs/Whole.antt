@@ -1,5 +1,6 @@
 -- What was gathered of all lines, and what the calls make of it.
 -- Assumes nothing.
+use Rattle.std.specs.Prelude.{Ok, Err, Some, None}
 use mathlib.Core.Path.{◌≡◌, refl, sym, ap, ◌∙◌, subst}
 use mathlib.Core.Bool.{Bool}
 use mathlib.Core.List.{List, [], ◌∷◌, ◌++◌}
@@ -19,25 +20,21 @@ use Rattle.setting.specs.Setting.{Setting, length_of, rows_in, heads}
 use Rattle.setting.proofs.Laws.{rows_whole}
 use Rattle.sheet.specs.declared.Record.{Record}
 use Rattle.sheet.specs.Promised.{Sized, Whole}
-use Rattle.sheet.specs.declared.Checked.{Checked}
-use Rattle.sheet.specs.declared.Checked.TheVariants as checked
+use Rattle.sheet.specs.Answers.{Checked}
 use Rattle.sheet.specs.Sheet.{record_for, sheet_of, values_for, named, valued, room_after, held, count_in, records_in, check_rows, check_refusal, Checks}
 use Rattle.sheet.proofs.Rowed.{length_record}
 use Rattle.sheet.proofs.Right.{whole, check_ranked, records_long}
 use Rattle.sheet.proofs.Steps.{checked_refused, right_told}
-use Rattle.sheet_editor.specs.declared.Editing.{Editing}
-use Rattle.sheet_editor.specs.declared.Editing.TheVariants.{Edited, Refused}
+use Rattle.sheet_editor.specs.Answers.{Editing}
 use Rattle.sheet_editor.specs.declared.Fault.{Fault as EditFault}
 use Rattle.sheet_editor.specs.declared.Fault.TheVariants.{Overstated, WrongSheet}
 use Rattle.sheet_editor.specs.Editor.{sheet_refusal, add_refusal, among, same_key, edit_answer, Edits, Adds}
-use Rattle.sheet_writer.specs.declared.Writing.{Writing}
-use Rattle.sheet_writer.specs.declared.Writing.TheVariants as writing
+use Rattle.sheet_writer.specs.Answers.{Writing}
 use Rattle.sheet_writer.specs.Writer.{rows_for, handed, write_answer, Writes}
 use Rattle.sheet_writer.proofs.Laws.{handed_back}
 use Rattle.sheet_line.specs.Words.{words_of}
 use Rattle.sheet_line.specs.Line.{setting_in, said_by, value_in, room_after as line_room, Reads}
-use Rattle.sheet_line.specs.declared.Line.{Line}
-use Rattle.sheet_line.specs.declared.Line.TheVariants.{Nothing, Is, Wrong}
+use Rattle.sheet_line.specs.Answers.{Line}
 use Rattle.sheet_line.specs.declared.Fault.{Fault as LineFault}
 use Rattle.sheet_line.specs.declared.Fault.TheVariants.{FewWords}
 use Rattle.sheet_line.proofs.Sound.{ReadFrom, read_allowed}
@@ -53,10 +50,10 @@ use Rattle.sheet_maker.proofs.Steps.{line_said, setting_read}
 -- ---- a setting that a line says
 
 -- whatever room it was read with
-pub said_so : (line : List ℕ) (r : Record) → said line ≡ Is r → ReadFrom (words_of line) r (line_room (said line) (value_in (words_of line)) (replicate 240 0))
+pub said_so : (line : List ℕ) (r : Record) → said line ≡ Ok (Some r) → ReadFrom (words_of line) r (line_room (said line) (value_in (words_of line)) (replicate 240 0))
 said_so line r is = read_allowed line (replicate 240 0) r (line_room (said line) (value_in (words_of line)) (replicate 240 0)) (sym is, refl)
 
-said_sized : (line : List ℕ) (r : Record) → said line ≡ Is r → length (setting_in (words_of line)).value ≡ length_of (setting_in (words_of line)).named
+said_sized : (line : List ℕ) (r : Record) → said line ≡ Ok (Some r) → length (setting_in (words_of line)).value ≡ length_of (setting_in (words_of line)).named
 unfolding setting_in
 said_sized line r is = let so = said_so line r is in so.many ∙ ap length_of so.named
 
@@ -71,9 +68,9 @@ settings_sized [] = λ k h. absurd (omega arith)
 settings_sized (line ∷ lines) = go (said line) refl (settings_sized lines)
   where
     go : (what : Line) → said line ≡ what → Sized (settings_from lines) → Sized (setting_of what line ++ settings_from lines)
-    go Nothing is each = each
-    go (Wrong f) is each = each
-    go (Is r) is each = sized_cons (setting_in (words_of line)) (settings_from lines) (said_sized line r is) each
+    go (Ok None) is each = each
+    go (Err f) is each = each
+    go (Ok (Some r)) is each = sized_cons (setting_in (words_of line)) (settings_from lines) (said_sized line r is) each
 
 -- ---- all lines were gathered
 
@@ -147,8 +144,8 @@ values_are text n page rows₀ rows values₀ values list₀ list g z long =
 
 -- what the writer answered is told
 abbrev pub written : Writing → Making
-written (writing.Written size) = making.Made size
-written (writing.Refused f) = making.Refused f
+written (Ok size) = making.Made size
+written (Err f) = making.Refused f
 
 pub made_right : (text : List ℕ) (n : ℕ) (page : Page) (rows₀ rows values₀ values list₀ list room : List ℕ) (w : Writing) (room' : List ℕ)
     → Done text n page rows₀ rows values₀ values list₀ list → page.wrong ≤ 0 → length rows₀ ≡ 1024 → length values₀ ≡ 30720
@@ -206,34 +203,34 @@ within_values text n page rows₀ rows values₀ values list₀ list g = (g.few,
 pub not_added_stated : (room : List ℕ) (size : ℕ) (wrong : LineFault) → length room < size → adding.Refused Overstated ≡ wrong_answer (sheet_refusal room size) wrong
 not_added_stated room size wrong h = rw (lt-ltb (length room) size h) refl
 
-pub not_added_sheet : (room : List ℕ) (size : ℕ) (wrong : LineFault) (f : SheetFault) (r : Checked) → size ≤ length room → Checks (take (size - 0) room) r → r ≡ checked.Refused f
+pub not_added_sheet : (room : List ℕ) (size : ℕ) (wrong : LineFault) (f : SheetFault) (r : Checked) → size ≤ length room → Checks (take (size - 0) room) r → r ≡ Err f
     → adding.Refused (WrongSheet f) ≡ wrong_answer (sheet_refusal room size) wrong
 not_added_sheet room size wrong f r h checks is =
     let so : check_refusal (take size room) ≡ some f = rw (sub-zero size) at (checked_refused (check_refusal (take (size - 0) room)) _ f (sym is ∙ checks)) in
     rw (le-ltb (length room) size h, so) refl
 
-pub not_added_line : (room : List ℕ) (size : ℕ) (wrong : LineFault) (n : ℕ) (r : Checked) → size ≤ length room → Checks (take (size - 0) room) r → r ≡ checked.Right n
+pub not_added_line : (room : List ℕ) (size : ℕ) (wrong : LineFault) (n : ℕ) (r : Checked) → size ≤ length room → Checks (take (size - 0) room) r → r ≡ Ok n
     → adding.Wrong wrong ≡ wrong_answer (sheet_refusal room size) wrong
 not_added_line room size wrong n r h checks is =
     let so : check_refusal (take size room) ≡ none = rw (sub-zero size) at (right_told (check_refusal (take (size - 0) room)) _ n (sym is ∙ checks)).0 in
     rw (le-ltb (length room) size h, so) refl
 
-pub nothing_added : (room : List ℕ) (size : ℕ) (line space : List ℕ) (answer : Line) (r : Adding) → length space ≡ 240 → answer ≡ Nothing
+pub nothing_added : (room : List ℕ) (size : ℕ) (line space : List ℕ) (answer : Line) (r : Adding) → length space ≡ 240 → answer ≡ Ok None
     → answer ≡ said_by (words_of line) (length space) → r ≡ wrong_answer (sheet_refusal room size) FewWords → AddsLine room size line r room
-nothing_added room size line space answer r long is so told = rw (line_said line space answer Nothing long so is) (told, refl)
+nothing_added room size line space answer r long is so told = rw (line_said line space answer (Ok None) long so is) (told, refl)
 
-pub wrong_added : (room : List ℕ) (size : ℕ) (line space : List ℕ) (answer : Line) (f : LineFault) (r : Adding) → length space ≡ 240 → answer ≡ Wrong f
+pub wrong_added : (room : List ℕ) (size : ℕ) (line space : List ℕ) (answer : Line) (f : LineFault) (r : Adding) → length space ≡ 240 → answer ≡ Err f
     → answer ≡ said_by (words_of line) (length space) → r ≡ wrong_answer (sheet_refusal room size) f → AddsLine room size line r room
-wrong_added room size line space answer f r long is so told = rw (line_said line space answer (Wrong f) long so is) (told, refl)
+wrong_added room size line space answer f r long is so told = rw (line_said line space answer (Err f) long so is) (told, refl)
 
 abbrev pub edited : Editing → Adding
-edited (Edited size) = adding.Added size
-edited (Refused f) = adding.Refused f
+edited (Ok size) = adding.Added size
+edited (Err f) = adding.Refused f
 
 pub line_added : (room : List ℕ) (size : ℕ) (line space : List ℕ) (answer : Line) (record_of : Record) (space' : List ℕ) (e so : Editing) (room' : List ℕ) → length space ≡ 240
-    → answer ≡ Is record_of → Reads line space answer space' → e ≡ so → Adds room size record_of.head (take (record_of.size - 0) space') e room' → AddsLine room size line (edited so) room'
+    → answer ≡ Ok (Some record_of) → Reads line space answer space' → e ≡ so → Adds room size record_of.head (take (record_of.size - 0) space') e room' → AddsLine room size line (edited so) room'
 line_added room size line space answer r space' e so room' long is reads same adds =
-    rw (line_said line space answer (Is r) long reads.0 is) (subst (λ (x : Editing). edited x ≡ answer_here) same (ap edited done.0 ∙ told refusal), done.1)
+    rw (line_said line space answer (Ok (Some r)) long reads.0 is) (subst (λ (x : Editing). edited x ≡ answer_here) same (ap edited done.0 ∙ told refusal), done.1)
   where
     new : Setting
     new = setting_in (words_of line)
@@ -256,20 +253,20 @@ line_added room size line space answer r space' e so room' long is reads same ad
 pub key_told : (rows : List ℕ) (unit register k : ℕ) {h : Head} {t : Bool} → h ≡ heads rows k → t ≡ same_key h (key_for unit register) → is_key unit register (heads rows) k ≡ t
 key_told rows unit register k e is = rw (is, e) refl
 
-pub found_none : (sheet : List ℕ) (unit register : ℕ) (f : SheetFault) (r : Checked) → Checks sheet r → r ≡ checked.Refused f → Finds sheet unit register 0
+pub found_none : (sheet : List ℕ) (unit register : ℕ) (f : SheetFault) (r : Checked) → Checks sheet r → r ≡ Err f → Finds sheet unit register 0
 found_none sheet unit register f r checks is = rw (checked_refused (check_refusal sheet) (count_in sheet) f (sym is ∙ checks)) refl
 
 -- of a right sheet: its records
-pub sheet_right : (sheet : List ℕ) (n : ℕ) (r : Checked) → Checks sheet r → r ≡ checked.Right n → (check_refusal sheet ≡ none) × (n ≡ count_in sheet)
+pub sheet_right : (sheet : List ℕ) (n : ℕ) (r : Checked) → Checks sheet r → r ≡ Ok n → (check_refusal sheet ≡ none) × (n ≡ count_in sheet)
 sheet_right sheet n r checks is = right_told (check_refusal sheet) (count_in sheet) n (sym is ∙ checks)
 
-pub sheet_within : (sheet : List ℕ) (n : ℕ) (r : Checked) → Checks sheet r → r ≡ checked.Right n → (n ≤ 128) × (12 + 8 * n ≤ length sheet)
+pub sheet_within : (sheet : List ℕ) (n : ℕ) (r : Checked) → Checks sheet r → r ≡ Ok n → (n ≤ 128) × (12 + 8 * n ≤ length sheet)
 sheet_within sheet n r checks is =
     let so = sheet_right sheet n r checks is in
     let w : Whole sheet = whole sheet ((done_exactly (check_rows sheet) (check_refusal sheet) (check_ranked sheet)).0 so.0) in
     rw so.1 (w.header.few, w.header.reaches)
 
-pub found_at_lem : (sheet : List ℕ) (unit register n end i : ℕ) (r : Checked) → Checks sheet r → r ≡ checked.Right n → end ≡ 12 + 8 * n
+pub found_at_lem : (sheet : List ℕ) (unit register n end i : ℕ) (r : Checked) → Checks sheet r → r ≡ Ok n → end ≡ 12 + 8 * n
     → i ≡ first_place (is_key unit register (heads (take (end - 12) (drop 12 sheet)))) (rows_in (take (end - 12) (drop 12 sheet))) → Finds sheet unit register i
 unfolding records_in
 found_at_lem sheet unit register n end i r checks is ends e =

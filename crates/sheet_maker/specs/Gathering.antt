@@ -6,7 +6,7 @@ use Rattle.setting.specs.declared.Head.{Head}
 use Rattle.setting.specs.Setting.{Setting}
 use Rattle.sheet.specs.Sheet.{record_for, values_for}
 use Rattle.sheet_writer.specs.Writer.{rows_for}
-use Rattle.sheet_line.specs.declared.Line.{Line}
+use Rattle.sheet_line.specs.Answers.{Line}
 use Rattle.sheet_maker.specs.Maker.{settings_from, settings_of, report_of, many_after, nearest, reports_from, reports_of}
 use Rattle.sheet_maker.specs.declared.gathering.Page.{Page}
 

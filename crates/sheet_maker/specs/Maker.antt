@@ -1,6 +1,6 @@
 -- A settings sheet made of a text, one setting added by a line of text, and a record found by its module and register. docs/SHEETS.md.
 -- Assumes nothing.
-use Rattle.std.specs.Prelude.{◌≡◌, Bool, true, false, cond, List, [], ◌∷◌, ◌++◌, ℕ, zero, suc, ◌/◌, eqb, leb, length, get_or, take}
+use Rattle.std.specs.Prelude.{◌≡◌, Bool, true, false, cond, List, [], ◌∷◌, ◌++◌, ℕ, zero, suc, ◌/◌, eqb, leb, length, get_or, take, Ok, Err, Some, None}
 use Rattle.std.proofs.Math.Option.{Option, some, none}
 use Rattle.first.specs.First.{first_place}
 use Rattle.lent.specs.Lent.{over}
@@ -14,8 +14,7 @@ use Rattle.sheet_editor.specs.declared.Fault.{Fault as EditFault}
 use Rattle.sheet.specs.Sheet.{held}
 use Rattle.sheet_line.specs.Words.{words_of}
 use Rattle.sheet_line.specs.Line.{said_by, setting_in, fault_word}
-use Rattle.sheet_line.specs.declared.Line.{Line}
-use Rattle.sheet_line.specs.declared.Line.TheVariants.{Nothing, Is, Wrong}
+use Rattle.sheet_line.specs.Answers.{Line}
 use Rattle.sheet_line.specs.declared.Fault.{Fault as LineFault}
 use Rattle.sheet_line.specs.declared.Fault.TheVariants.{FewWords, NoNumber, NoModule, NoRegister, NoKind, BadCount, OtherCount, NotFitting, NoRoom}
 use Rattle.sheet_maker.specs.declared.Making.{Making}
@@ -42,9 +41,9 @@ said line = said_by (words_of line) 240
 -- ---- the settings of a text, in its order
 
 abbrev pub setting_of : Line → List ℕ → List Setting
-setting_of Nothing line = []
-setting_of (Wrong f) line = []
-setting_of (Is r) line = setting_in (words_of line) ∷ []
+setting_of (Ok None) line = []
+setting_of (Err f) line = []
+setting_of (Ok (Some r)) line = setting_in (words_of line) ∷ []
 
 unfoldable pub settings_from : List (List ℕ) → List Setting
 settings_from [] = []
@@ -70,20 +69,20 @@ key_of NoRoom = 0
 -- where `many` settings stand in the lines before it, 128 at most, and the nearest of them is named `before`: `many` is "right in itself,
 -- and 128 settings stand in lines before it", `order` "is not above the setting of the nearest line before it that is right in itself"
 abbrev pub report_of : ℕ → ℕ → Head → Line → List ℕ
-report_of number many before Nothing = []
-report_of number many before (Wrong f) = number ∷ fault_word f ∷ key_of f ∷ []
-report_of number many before (Is r) =
+report_of number many before (Ok None) = []
+report_of number many before (Err f) = number ∷ fault_word f ∷ key_of f ∷ []
+report_of number many before (Ok (Some r)) =
     cond (leb 128 many) (number ∷ 0 ∷ 9 ∷ []) (cond (is_above before r.head) [] (number ∷ 0 ∷ 10 ∷ []))
 
 abbrev pub many_after : ℕ → Line → ℕ
-many_after many Nothing = many
-many_after many (Wrong f) = many
-many_after many (Is r) = cond (leb 128 many) many (suc many)
+many_after many (Ok None) = many
+many_after many (Err f) = many
+many_after many (Ok (Some r)) = cond (leb 128 many) many (suc many)
 
 abbrev pub nearest : Head → Line → Head
-nearest before Nothing = before
-nearest before (Wrong f) = before
-nearest before (Is r) = r.head
+nearest before (Ok None) = before
+nearest before (Err f) = before
+nearest before (Ok (Some r)) = r.head
 
 unfoldable pub reports_from : ℕ → ℕ → Head → List (List ℕ) → List ℕ
 reports_from number many before [] = []
@@ -139,15 +138,15 @@ added_answer none size = adding.Added size
 
 -- "a sheet that is not right is told first (65 to 70), then the line's own key, then 78, 79"
 abbrev pub add_answer : Line → List ℕ → List ℕ → ℕ → Adding
-add_answer Nothing line room size = wrong_answer (sheet_refusal room size) FewWords
-add_answer (Wrong f) line room size = wrong_answer (sheet_refusal room size) f
-add_answer (Is r) line room size =
+add_answer (Ok None) line room size = wrong_answer (sheet_refusal room size) FewWords
+add_answer (Err f) line room size = wrong_answer (sheet_refusal room size) f
+add_answer (Ok (Some r)) line room size =
     added_answer (add_refusal room size (setting_in (words_of line))) (length (sheet_of (among (setting_in (words_of line)) (held (take size room)))))
 
 abbrev pub add_room : Line → List ℕ → List ℕ → ℕ → List ℕ
-add_room Nothing line room size = room
-add_room (Wrong f) line room size = room
-add_room (Is r) line room size =
+add_room (Ok None) line room size = room
+add_room (Err f) line room size = room
+add_room (Ok (Some r)) line room size =
     edit_room (add_refusal room size (setting_in (words_of line))) (sheet_of (among (setting_in (words_of line)) (held (take size room)))) room
 
 abbrev pub AddsLine : List ℕ → ℕ → List ℕ → Adding → List ℕ → Type 0

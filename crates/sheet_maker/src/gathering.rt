@@ -1,12 +1,11 @@
 // The settings of a text gathered, line by line, as rows and values; what is wrong goes into a list.
-ghost use Rattle.std.specs.Prelude.{◌≡◌, [], ◌∷◌, length, ℕ, ◌*◌, ◌≤◌, ◌<◌};
+ghost use Rattle.std.specs.Prelude.{◌≡◌, [], ◌∷◌, length, ℕ, ◌*◌, ◌≤◌, ◌<◌, Ok, Some};
 ghost use Rattle.setting.specs.Setting.{setting};
 ghost use Rattle.sheet_maker.specs.Maker.{said, setting_of};
 ghost use Rattle.sheet_maker.specs.Gathering.{Tells, Reported, Put, Ready, Taken, Gathered};
 
 use setting::{Head, MOST, ROW};
 use sheet::Record;
-use sheet_line::Line;
 
 const MANY: u8 = 9;
 
@@ -60,15 +59,15 @@ fn take_line(
 {
     let mut value = [0u8; 240];
     match sheet_line::read(line, &mut value) {
-        Line::Nothing => page,
-        Line::Wrong(fault) => report(
+        Ok(None) => page,
+        Err(fault) => report(
             page,
             number,
             sheet_line::word(fault) as u64,
             crate::key(fault),
             list,
         ),
-        Line::Is(record) => {
+        Ok(Some(record)) => {
             let size = record.size;
             take_setting(page, number, record, &value[0..size], rows, values, list)
         }
@@ -86,7 +85,7 @@ fn take_setting(
     list: &mut [u64],
 ) -> Page
     requires { Ready number page × (length value.now ≤ 240) }
-    ensures { Taken number (Line.Is one) (setting one.head value.now ∷ []) page result rows.old rows.new values.old values.new list.old list.new }
+    ensures { Taken number (Ok (Some one)) (setting one.head value.now ∷ []) page result rows.old rows.new values.old values.new list.old list.new }
 {
     let head = one.head;
     let many = page.many;

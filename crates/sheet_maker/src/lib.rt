@@ -12,10 +12,7 @@ ghost use Rattle.sheet_editor.specs.Editor.{sheet_refusal, same_key};
 ghost use Rattle.sheet_maker.specs.Maker.{Makes, AddsLine, Finds, Keys, NumbersKey, wrong_answer, key_for, is_key};
 
 use setting::{Head, ROW};
-use sheet::{Checked, HEADER};
-use sheet_editor::Editing;
-use sheet_line::Line;
-use sheet_writer::Writing;
+use sheet::HEADER;
 
 // How long the sheet of a text is, how many of its lines are bad, or why none is written.
 #[derive(Clone, Copy)]
@@ -76,8 +73,8 @@ pub fn make(text: &[u8], list: &mut [u64], room: &mut [u8]) -> Making
     let many = ROW * page.many;
     let size = page.size;
     match sheet_writer::write(&rows[0..many], &values[0..size], room) {
-        Writing::Written(n) => Making::Made(n),
-        Writing::Refused(fault) => Making::Refused(fault),
+        Ok(n) => Making::Made(n),
+        Err(fault) => Making::Refused(fault),
     }
 }
 
@@ -88,14 +85,14 @@ pub fn add(room: &mut [u8], size: usize, line: &[u8]) -> Adding
 {
     let mut value = [0u8; 240];
     match sheet_line::read(line, &mut value) {
-        Line::Nothing => not_added(&room[..], size, sheet_line::Fault::FewWords),
-        Line::Wrong(fault) => not_added(&room[..], size, fault),
-        Line::Is(record) => {
+        Ok(None) => not_added(&room[..], size, sheet_line::Fault::FewWords),
+        Err(fault) => not_added(&room[..], size, fault),
+        Ok(Some(record)) => {
             let head = record.head;
             let long = record.size;
             match sheet_editor::add(room, size, head, &value[0..long]) {
-                Editing::Edited(n) => Adding::Added(n),
-                Editing::Refused(fault) => Adding::Refused(fault),
+                Ok(n) => Adding::Added(n),
+                Err(fault) => Adding::Refused(fault),
             }
         }
     }
@@ -109,8 +106,8 @@ fn not_added(room: &[u8], size: usize, wrong: sheet_line::Fault) -> Adding
         return Adding::Refused(sheet_editor::Fault::Overstated);
     }
     match sheet::check(&room[0..size]) {
-        Checked::Refused(fault) => Adding::Refused(sheet_editor::Fault::WrongSheet(fault)),
-        Checked::Right(_) => Adding::Wrong(wrong),
+        Err(fault) => Adding::Refused(sheet_editor::Fault::WrongSheet(fault)),
+        Ok(_) => Adding::Wrong(wrong),
     }
 }
 
@@ -120,8 +117,8 @@ pub fn find(sheet: &[u8], unit: u8, register: u8) -> usize
     ensures { Finds sheet.now unit register result }
 {
     match sheet::check(sheet) {
-        Checked::Refused(_) => 0,
-        Checked::Right(n) => {
+        Err(_) => 0,
+        Ok(n) => {
             let end = HEADER + ROW * n;
             first_of(&sheet[HEADER..end], unit, register)
         }

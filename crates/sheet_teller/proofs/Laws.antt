@@ -1,5 +1,6 @@
 -- What is promised of telling a sheet: the laws that callers may cite.
 -- Assumes nothing.
+use Rattle.std.specs.Prelude.{Ok, Err}
 use mathlib.Core.Path.{◌≡◌, refl, ap, ◌∙◌}
 use mathlib.Core.List.{List, [], ◌∷◌}
 use mathlib.Core.Logic.{◌⊎◌, inl, inr, ⊎_elim, ◌↔◌, ◌≢◌}
@@ -26,8 +27,7 @@ use Rattle.sheet_teller.specs.declared.Order.{Order}
 use Rattle.sheet_teller.specs.declared.Form.TheVariants.{Calls}
 use Rattle.sheet_teller.specs.declared.Fault.{Fault}
 use Rattle.sheet_teller.specs.declared.Fault.TheVariants.{WrongSheet, NoJob, WrongWait}
-use Rattle.sheet_teller.specs.declared.Telling.{Telling}
-use Rattle.sheet_teller.specs.declared.Telling.TheVariants.{Told, Refused}
+use Rattle.sheet_teller.specs.Answers.{Telling}
 use Rattle.sheet_teller.specs.Teller.{hex_digit, hex_of, call_of, pieces_of, text_of, HasNoJob, HasWrongWait, show_rows, ask_rows, order_tests, show_refusal, ask_refusal}
 use Rattle.sheet_teller.specs.Teller.{fault_number, tell_told, tell_answer, Tells, Shows, Asks, Numbers}
 use Rattle.sheet_teller.specs.Asked.{request_of}
@@ -91,33 +91,33 @@ waits order n =
 
 -- ---- a refusal leaves the room
 
-keeps : (o : Option Fault) (text room : List ℕ) (f : Fault) (room' : List ℕ) → Tells o text room (Refused f) room' → room' ≡ room
+keeps : (o : Option Fault) (text room : List ℕ) (f : Fault) (room' : List ℕ) → Tells o text room (Err f) room' → room' ≡ room
 keeps none text room f room' p = let e = p.0 in clash cc
 keeps (some g) text room f room' p = p.1
 
-pub show_refusal_keeps : (sheet room : List ℕ) (f : Fault) (room' : List ℕ) → Shows sheet room (Refused f) room' → room' ≡ room
+pub show_refusal_keeps : (sheet room : List ℕ) (f : Fault) (room' : List ℕ) → Shows sheet room (Err f) room' → room' ≡ room
 show_refusal_keeps sheet room f room' p = keeps (show_refusal sheet) (text_of (held sheet)) room f room' p
 
-pub ask_refusal_keeps : (sheet : List ℕ) (order : Order) (room : List ℕ) (f : Fault) (room' : List ℕ) → Asks sheet order room (Refused f) room' → room' ≡ room
+pub ask_refusal_keeps : (sheet : List ℕ) (order : Order) (room : List ℕ) (f : Fault) (room' : List ℕ) → Asks sheet order room (Err f) room' → room' ≡ room
 ask_refusal_keeps sheet order room f room' p = keeps (ask_refusal sheet order) (pieces_of (Calls order) (held sheet)) room f room' p
 
 -- ---- where nothing refuses, the sheet is right and its text is told
 
-told : (o : Option Fault) (text : List ℕ) (n : ℕ) → Told n ≡ tell_answer o text → (o ≡ none) × (n ≡ length text)
+told : (o : Option Fault) (text : List ℕ) (n : ℕ) → Ok n ≡ tell_answer o text → (o ≡ none) × (n ≡ length text)
 told none text n e = (refl, cc)
 told (some f) text n e = clash cc
 
 right_sheet : (sheet : List ℕ) → raised WrongSheet (check_refusal sheet) ≡ none → Right sheet
 right_sheet sheet e = (done_exactly (check_rows sheet) (check_refusal sheet) (check_ranked sheet)).0 (raised_none WrongSheet (check_refusal sheet) e)
 
-pub show_done : (sheet room : List ℕ) (n : ℕ) (room' : List ℕ) → Shows sheet room (Told n) room'
+pub show_done : (sheet room : List ℕ) (n : ℕ) (room' : List ℕ) → Shows sheet room (Ok n) room'
     → Right sheet × (n ≡ length (text_of (held sheet))) × (room' ≡ over (text_of (held sheet)) room)
 unfolding show_refusal
 show_done sheet room n room' p =
     let t = told (show_refusal sheet) (text_of (held sheet)) n p.0 in
     (right_sheet sheet t.0, t.1, rw t.0 at p.1)
 
-pub ask_done : (sheet : List ℕ) (order : Order) (room : List ℕ) (n : ℕ) (room' : List ℕ) → Asks sheet order room (Told n) room'
+pub ask_done : (sheet : List ℕ) (order : Order) (room : List ℕ) (n : ℕ) (room' : List ℕ) → Asks sheet order room (Ok n) room'
     → Right sheet × (order.job ≢ 0) × ((1 ≤ order.wait) × (order.wait ≤ 60000))
     × (n ≡ length (pieces_of (Calls order) (held sheet))) × (room' ≡ over (pieces_of (Calls order) (held sheet)) room)
 unfolding ask_refusal HasNoJob
@@ -140,7 +140,7 @@ none_denies order h bytes job wait a long = (
   ),
 )
 
-pub calls_allowed : (sheet : List ℕ) (order : Order) (room : List ℕ) (n : ℕ) (room' : List ℕ) → Asks sheet order room (Told n) room'
+pub calls_allowed : (sheet : List ℕ) (order : Order) (room : List ℕ) (n : ℕ) (room' : List ℕ) → Asks sheet order room (Ok n) room'
     → (k : ℕ) → k < length (held sheet) → request_refusal (request_of order (named (held sheet) k)) (valued (held sheet) k) ≡ none
 calls_allowed sheet order room n room' p k l =
     let d = ask_done sheet order room n room' p in

@@ -1,5 +1,7 @@
 -- What the loop over a sheet's settings needs, and the returns of the calls that tell a sheet.
 -- Assumes nothing.
+use Rattle.std.specs.Prelude.{Ok, Err, IsErrAnd, MatchResult}
+use Rattle.std.proofs.lemmas.Result.{err_from_is_err_and}
 use mathlib.Core.Path.{◌≡◌, refl, sym, ap, ap₂, ◌∙◌}
 use mathlib.Core.List.{List, [], ◌∷◌, ◌++◌}
 use mathlib.Core.Logic.{◌≢◌}
@@ -11,6 +13,7 @@ use native.Mathlib.Omega.{arith}
 use borrow.Author.Tests.{eq-eqb, ne_eqb, lt-leb, le-leb}
 use lib.ListN.{length, get_or, take, drop, length-take, length-append, drop_of_length-le}
 use lib.Seq.{drop-cons, drop-drop}
+use Rattle.rows.proofs.Laws.{clash}
 use Rattle.lent.specs.Lent.{over, over_at}
 use Rattle.lent.proofs.Laws.{over_at_zero, length-over_at}
 use Rattle.setting.specs.declared.Head.{Head}
@@ -19,17 +22,17 @@ use Rattle.setting.specs.Setting.{Setting, setting, length_of, lengths_to, heads
 use Rattle.setting.proofs.Laws.{length_allowed}
 use Rattle.setting.proofs.Lists.{head_from, no_lengths, lengths_next, lengths_mono, setting_at}
 use Rattle.sheet.specs.Sheet.{count_in, records_in, values_in, held, nothing, check_refusal, Checks}
-use Rattle.sheet.specs.declared.Checked.{Checked}
-use Rattle.sheet.specs.declared.Checked.TheVariants as checked
+use Rattle.sheet.specs.Answers.{Checked}
 use Rattle.sheet.specs.Promised.{Whole}
 use Rattle.sheet.proofs.Right.{heads_are, lengths_are}
 use Rattle.sheet.proofs.Written.{held_long}
 use Rattle.sheet.proofs.Steps.{right_none, rows_are, checked_refused, right_told}
+use Rattle.sheet_teller.specs.Answers.{Telling}
 use Rattle.sheet_teller.specs.declared.Order.{Order}
 use Rattle.sheet_teller.specs.declared.Form.{Form}
 use Rattle.sheet_teller.specs.declared.Form.TheVariants.{Lines, Calls}
+use Rattle.sheet_teller.specs.declared.Fault.{Fault}
 use Rattle.sheet_teller.specs.declared.Fault.TheVariants.{WrongSheet, NoJob, WrongWait}
-use Rattle.sheet_teller.specs.declared.Telling.TheVariants.{Told, Refused}
 use Rattle.text.specs.Text.{Puts}
 use Rattle.sheet_teller.specs.Teller.{Shows, Asks, piece_of, pieces_of, show_refusal, ask_refusal}
 use Rattle.sheet_teller.proofs.Put.{lay_on, lay_end}
@@ -172,42 +175,71 @@ module _ {sheet : List ℕ} {n : ℕ} {form : Form} {room₀ room : List ℕ} {f
 
 -- ---- the returns
 
+-- a telling that is the check's answer, its refusal raised
+abbrev pub Raised : Checked → Telling → Type 0
+Raised answer told = MatchResult answer (λ n. told ≡ Ok n) (λ f. IsErrAnd told (λ g. g ≡ WrongSheet f))
+
+raised_right : (answer : Checked) (told : Telling) → Raised answer told → (n : ℕ) → told ≡ Ok n → answer ≡ Ok n
+raised_right (Ok m) told r n e =
+    let right : told ≡ Ok m = r in
+    let same : m ≡ n = cc in
+    ap Ok same
+raised_right (Err f) told r n e =
+    let p = err_from_is_err_and told r in
+    let wrong : told ≡ Err p.0 = p.1 in
+    clash (cc)
+
+raised_wrong : (answer : Checked) (told : Telling) → Raised answer told → (g : Fault) → told ≡ Err g → (f : SheetFault) × (answer ≡ Err f) × (g ≡ WrongSheet f)
+raised_wrong (Ok m) told r g e = let right : told ≡ Ok m = r in clash (cc)
+raised_wrong (Err f) told r g e =
+    let p = err_from_is_err_and told r in
+    let wrong : told ≡ Err p.0 = p.1 in
+    let same : g ≡ p.0 = cc in
+    (f, refl, same ∙ p.2)
+
 -- what the check tells of the sheet
 module _ (sheet : List ℕ) {answer : Checked} (p : Checks sheet answer) where
-  pub told_wrong : (f : SheetFault) → answer ≡ checked.Refused f → check_refusal sheet ≡ some f
+  told_wrong : (f : SheetFault) → answer ≡ Err f → check_refusal sheet ≡ some f
   told_wrong f e = checked_refused (check_refusal sheet) (count_in sheet) f (sym e ∙ p)
 
-  pub told_right : (n : ℕ) → answer ≡ checked.Right n → (check_refusal sheet ≡ none) × (n ≡ count_in sheet)
+  told_right : (n : ℕ) → answer ≡ Ok n → (check_refusal sheet ≡ none) × (n ≡ count_in sheet)
   told_right n e = right_told (check_refusal sheet) (count_in sheet) n (sym e ∙ p)
 
+  module _ {told : Telling} (r : Raised answer told) where
+    pub still_right : (n : ℕ) → told ≡ Ok n → (check_refusal sheet ≡ none) × (n ≡ count_in sheet)
+    still_right n e = told_right n (raised_right answer told r n e)
+
+    pub still_wrong : (g : Fault) → told ≡ Err g → (f : SheetFault) × (check_refusal sheet ≡ some f) × (g ≡ WrongSheet f)
+    still_wrong g e = let w = raised_wrong answer told r g e in (w.0, told_wrong w.0 w.1, w.2)
+
 module _ (sheet room : List ℕ) where
-  pub show_wrong : (f : SheetFault) → check_refusal sheet ≡ some f → Shows sheet room (Refused (WrongSheet f)) room
+  pub show_wrong : (f : SheetFault) → check_refusal sheet ≡ some f → Shows sheet room (Err (WrongSheet f)) room
   unfolding show_refusal
   show_wrong f e = rw e (refl, refl)
 
   pub show_told : (r : ℕ) (room' : List ℕ) → check_refusal sheet ≡ none
-      → (r ≡ length (pieces_of Lines (held sheet))) × (room' ≡ over (pieces_of Lines (held sheet)) room) → Shows sheet room (Told r) room'
+      → (r ≡ length (pieces_of Lines (held sheet))) × (room' ≡ over (pieces_of Lines (held sheet)) room) → Shows sheet room (Ok r) room'
   unfolding show_refusal
-  show_told r room' e p = rw e (ap Told p.0, p.1)
+  show_told r room' e p = rw e (ap Ok p.0, p.1)
 
   module _ (order : Order) where
-    pub ask_wrong : (f : SheetFault) → check_refusal sheet ≡ some f → Asks sheet order room (Refused (WrongSheet f)) room
+    pub ask_wrong : (f : SheetFault) → check_refusal sheet ≡ some f → Asks sheet order room (Err (WrongSheet f)) room
     unfolding ask_refusal
     ask_wrong f e = rw e (refl, refl)
 
-    pub ask_no_job : check_refusal sheet ≡ none → order.job ≡ 0 → Asks sheet order room (Refused NoJob) room
+    pub ask_no_job : check_refusal sheet ≡ none → order.job ≡ 0 → Asks sheet order room (Err NoJob) room
     unfolding ask_refusal
     ask_no_job e z = rw (e, eq-eqb order.job 0 z) (refl, refl)
 
-    pub ask_no_wait : check_refusal sheet ≡ none → order.job ≢ 0 → order.wait < 1 → Asks sheet order room (Refused WrongWait) room
+    pub ask_no_wait : check_refusal sheet ≡ none → order.job ≢ 0 → order.wait < 1 → Asks sheet order room (Err WrongWait) room
     unfolding ask_refusal
     ask_no_wait e z l = rw (e, ne_eqb order.job 0 z, lt-leb 1 order.wait l) (refl, refl)
 
-    pub ask_long_wait : check_refusal sheet ≡ none → order.job ≢ 0 → 1 ≤ order.wait → 60000 < order.wait → Asks sheet order room (Refused WrongWait) room
+    pub ask_long_wait : check_refusal sheet ≡ none → order.job ≢ 0 → 1 ≤ order.wait → 60000 < order.wait → Asks sheet order room (Err WrongWait) room
     unfolding ask_refusal
     ask_long_wait e z l m = rw (e, ne_eqb order.job 0 z, le-leb 1 order.wait l, lt-leb order.wait 60000 m) (refl, refl)
 
     pub ask_told_lem : (r : ℕ) (room' : List ℕ) → check_refusal sheet ≡ none → order.job ≢ 0 → 1 ≤ order.wait → order.wait ≤ 60000
-        → (r ≡ length (pieces_of (Calls order) (held sheet))) × (room' ≡ over (pieces_of (Calls order) (held sheet)) room) → Asks sheet order room (Told r) room'
+        → (r ≡ length (pieces_of (Calls order) (held sheet))) × (room' ≡ over (pieces_of (Calls order) (held sheet)) room) → Asks sheet order room (Ok r) room'
     unfolding ask_refusal
-    ask_told_lem r room' e z l m p = rw (e, ne_eqb order.job 0 z, le-leb 1 order.wait l, le-leb order.wait 60000 m) (ap Told p.0, p.1)
+    ask_told_lem r room' e z l m p = rw (e, ne_eqb order.job 0 z, le-leb 1 order.wait l, le-leb order.wait 60000 m) (ap Ok p.0, p.1)

@@ -1,3 +1,4 @@
+pub mod Answers
 pub mod Teller
 pub mod Parts
 pub mod Asked

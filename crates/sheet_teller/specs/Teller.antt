@@ -1,6 +1,6 @@
 -- A settings sheet told as text: a line for each setting, or a call for each of its write requests. docs/SHEETS.md.
 -- Assumes nothing.
-use Rattle.std.specs.Prelude.{◌≡◌, cond, not, ◌&&◌, List, [], ◌∷◌, ◌++◌, ℕ, ◌+◌, ◌*◌, ◌/◌, ◌%◌, ◌≤◌, eqb, leb, ltb, length, replicate}
+use Rattle.std.specs.Prelude.{◌≡◌, cond, not, ◌&&◌, List, [], ◌∷◌, ◌++◌, ℕ, ◌+◌, ◌*◌, ◌/◌, ◌%◌, ◌≤◌, eqb, leb, ltb, length, replicate, Ok, Err}
 use Rattle.std.proofs.Math.Option.{Option, some, none}
 use Rattle.lent.specs.Lent.{over}
 use Rattle.rows.specs.Rows.{Row, row, Test, test, first_row_of, or_later, passed_up, raised}
@@ -13,8 +13,7 @@ use Rattle.sheet_teller.specs.declared.Form.{Form}
 use Rattle.sheet_teller.specs.declared.Form.TheVariants.{Lines, Calls}
 use Rattle.sheet_teller.specs.declared.Fault.{Fault}
 use Rattle.sheet_teller.specs.declared.Fault.TheVariants.{WrongSheet, NoJob, WrongWait}
-use Rattle.sheet_teller.specs.declared.Telling.{Telling}
-use Rattle.sheet_teller.specs.declared.Telling.TheVariants.{Told, Refused}
+use Rattle.sheet_teller.specs.Answers.{Telling}
 
 -- ---- the request that sets a register: "`desk.open JOB MODULE 5 REGISTER DATA WAIT 0 CLOCK BUF`"
 
@@ -89,12 +88,12 @@ fault_number NoJob = 10
 fault_number WrongWait = 14
 
 abbrev pub tell_told : Telling → Option ℕ
-tell_told (Refused f) = some (fault_number f)
-tell_told (Told size) = none
+tell_told (Err f) = some (fault_number f)
+tell_told (Ok size) = none
 
 abbrev pub tell_answer : Option Fault → List ℕ → Telling
-tell_answer (some f) text = Refused f
-tell_answer none text = Told (length text)
+tell_answer (some f) text = Err f
+tell_answer none text = Ok (length text)
 
 -- "as much of it as there is room for"; a refusal leaves every byte
 abbrev pub tell_room : Option Fault → List ℕ → List ℕ → List ℕ

@@ -11,7 +11,7 @@ ghost use Rattle.sheet.specs.Sheet.{check_refusal, count_in, held};
 ghost use Rattle.sheet_teller.specs.Teller.{Shows, Asks, Numbers, pieces_of};
 
 use setting::ROW;
-use sheet::{Checked, HEADER};
+use sheet::HEADER;
 
 // Who asks for the registers of a sheet to be set, how long each reply is waited for, and at what
 // clock reading.
@@ -40,13 +40,6 @@ pub enum Fault {
     WrongWait,
 }
 
-// How long the text is.
-#[derive(Clone, Copy)]
-pub enum Telling {
-    Told(usize),
-    Refused(Fault),
-}
-
 // The paper's number of a refusal.
 pub fn number(fault: Fault) -> u8
     ensures { Numbers fault result }
@@ -60,34 +53,28 @@ pub fn number(fault: Fault) -> u8
 
 // Lays the text of a sheet over the room's first bytes, as much of it as there is room for, and
 // answers how long it is. The rest of the room stays, and a refusal leaves all of it.
-pub fn show(sheet: &[u8], room: &mut [u8]) -> Telling
+pub fn show(sheet: &[u8], room: &mut [u8]) -> Result<usize, Fault>
     ensures { Shows sheet.now room.old result room.new }
 {
-    match sheet::check(sheet) {
-        Checked::Refused(wrong) => Telling::Refused(Fault::WrongSheet(wrong)),
-        Checked::Right(n) => Telling::Told(lay_all(sheet, n, Form::Lines, room)),
-    }
+    let n = sheet::check(sheet).map_err(Fault::WrongSheet)?;
+    Ok(lay_all(sheet, n, Form::Lines, room))
 }
 
 // The same with the calls that set the registers of a sheet, each a request of a job.
-pub fn requests(sheet: &[u8], order: Order, room: &mut [u8]) -> Telling
+pub fn requests(sheet: &[u8], order: Order, room: &mut [u8]) -> Result<usize, Fault>
     ensures { Asks sheet.now order room.old result room.new }
 {
-    match sheet::check(sheet) {
-        Checked::Refused(wrong) => Telling::Refused(Fault::WrongSheet(wrong)),
-        Checked::Right(n) => {
-            if order.job == 0 {
-                return Telling::Refused(Fault::NoJob);
-            }
-            if order.wait < 1 {
-                return Telling::Refused(Fault::WrongWait);
-            }
-            if 60000 < order.wait {
-                return Telling::Refused(Fault::WrongWait);
-            }
-            Telling::Told(lay_all(sheet, n, Form::Calls(order), room))
-        }
+    let n = sheet::check(sheet).map_err(Fault::WrongSheet)?;
+    if order.job == 0 {
+        return Err(Fault::NoJob);
     }
+    if order.wait < 1 {
+        return Err(Fault::WrongWait);
+    }
+    if 60000 < order.wait {
+        return Err(Fault::WrongWait);
+    }
+    Ok(lay_all(sheet, n, Form::Calls(order), room))
 }
 
 // The text of a right sheet with n records.

@@ -1,5 +1,6 @@
 -- A sheet that is made of a text is of bytes, and each of its settings is one that a line can say.
 -- Assumes nothing.
+use Rattle.std.specs.Prelude.{Ok, Err, Some, None}
 use mathlib.Core.Path.{◌≡◌, refl, ap, ◌∙◌}
 use mathlib.Core.List.{List, [], ◌∷◌, ◌++◌}
 use Prim.Native.Nat.{ℕ, zero, suc, ◌+◌, ◌*◌}
@@ -14,15 +15,14 @@ use Rattle.sheet_editor.proofs.Rising.{Each}
 use Rattle.sheet_line.proofs.Sound.{bytes_append}
 use Rattle.sheet_line.specs.Words.{words_of}
 use Rattle.sheet_line.specs.Line.{setting_in}
-use Rattle.sheet_line.specs.declared.Line.{Line}
-use Rattle.sheet_line.specs.declared.Line.TheVariants.{Nothing, Is, Wrong}
+use Rattle.sheet_line.specs.Answers.{Line}
 use Rattle.sheet_line.proofs.There.{Proper, proper_head}
 use Rattle.sheet_maker.specs.Maker.{lines_of, said, setting_of, settings_from, settings_of}
 use Rattle.sheet_maker.proofs.Whole.{said_so}
 
 -- ---- the settings of a text
 
-said_proper : (line : List ℕ) (r : Record) → said line ≡ Is r → Proper (setting_in (words_of line))
+said_proper : (line : List ℕ) (r : Record) → said line ≡ Ok (Some r) → Proper (setting_in (words_of line))
 unfolding setting_in
 said_proper line r is =
     let so = said_so line r is in
@@ -34,9 +34,9 @@ settings_proper [] = tt
 settings_proper (line ∷ lines) = go (said line) refl (settings_proper lines)
   where
     go : (what : Line) → said line ≡ what → Each Proper (settings_from lines) → Each Proper (setting_of what line ++ settings_from lines)
-    go Nothing is each = each
-    go (Wrong f) is each = each
-    go (Is r) is each = (said_proper line r is, each)
+    go (Ok None) is each = each
+    go (Err f) is each = each
+    go (Ok (Some r)) is each = (said_proper line r is, each)
 
 pub text_proper : (text : List ℕ) → Each Proper (settings_of text)
 unfolding settings_of

@@ -1,5 +1,6 @@
 -- Each bad line has a key of the table: with 240 bytes for its value no line is short of room.
 -- Assumes nothing.
+use Rattle.std.specs.Prelude.{Ok, Err, None}
 use mathlib.Core.Path.{◌≡◌, refl, ap}
 use mathlib.Core.Bool.{Bool, true, false, cond, not, ◌&&◌}
 use mathlib.Core.List.{List}
@@ -17,7 +18,6 @@ use Rattle.sheet_line.specs.Words.{words_of}
 use Rattle.sheet_line.specs.Line.{small_at, kind_in, head_in, is_no_number, is_unfit, no_number_at, unfit_at, line_refusal, line_answer, said_by}
 use Rattle.sheet_line.specs.declared.Fault.{Fault}
 use Rattle.sheet_line.specs.declared.Fault.TheVariants.{FewWords, NoNumber, NoModule, NoRegister, NoKind, BadCount, OtherCount, NotFitting, NoRoom}
-use Rattle.sheet_line.specs.declared.Line.TheVariants.{Nothing, Wrong}
 use Rattle.sheet_line.proofs.Sound.{none_sound}
 use Rattle.sheet_maker.specs.Maker.{said, key_of}
 
@@ -44,16 +44,16 @@ never_short words e =
     let most : long ≤ 240 = length_allowed (head_in words) (none_sound words long nothing_else).allowed in
     clash (let z = rw (le-ltb 240 long most) at fit.1 in cc)
 
-said_wrong : (words : List (List ℕ)) (f : Fault) → said_by words 240 ≡ Wrong f → line_refusal words 240 ≡ some f
+said_wrong : (words : List (List ℕ)) (f : Fault) → said_by words 240 ≡ Err f → line_refusal words 240 ≡ some f
 unfolding said_by
 said_wrong words f e = go (eqb (length words) 0) (line_refusal words 240) e
   where
-    go : (t : Bool) (o : Option Fault) → cond t Nothing (line_answer o (head_in words)) ≡ Wrong f → o ≡ some f
+    go : (t : Bool) (o : Option Fault) → cond t (Ok None) (line_answer o (head_in words)) ≡ Err f → o ≡ some f
     go true o e = clash (cc)
     go false (some g) e = cc
     go false none e = clash (cc)
 
-pub line_keyed : (line : List ℕ) (f : Fault) → said line ≡ Wrong f → (1 ≤ key_of f) × (key_of f ≤ 8)
+pub line_keyed : (line : List ℕ) (f : Fault) → said line ≡ Err f → (1 ≤ key_of f) × (key_of f ≤ 8)
 line_keyed line f is = go f (said_wrong (words_of line) f is)
   where
     go : (g : Fault) → line_refusal (words_of line) 240 ≡ some g → (1 ≤ key_of g) × (key_of g ≤ 8)

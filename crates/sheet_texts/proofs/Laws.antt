@@ -1,5 +1,6 @@
 -- What is promised of sheets and their texts: the laws that callers may cite. docs/SHEETS.md.
 -- Assumes nothing.
+use Rattle.std.specs.Prelude.{Ok, Err, Some, None}
 use mathlib.Core.Path.{◌≡◌, refl, sym, ap, subst, ◌∙◌}
 use mathlib.Core.Bool.{Bool, true, false, cond}
 use mathlib.Core.List.{List, [], ◌∷◌, ◌++◌}
@@ -22,18 +23,15 @@ use Rattle.setting.specs.declared.Fault.TheVariants.{NoRoom}
 use Rattle.setting.specs.Setting.{head, Setting, Above}
 use Rattle.setting.proofs.Laws.{decides_above}
 use Rattle.sheet.specs.declared.Record.{Record}
-use Rattle.sheet.specs.declared.Checked.TheVariants as checked
 use Rattle.sheet.specs.Sheet.{sheet_of, values_for, named, Writable, Right, count_in, held, check_refusal, Checks}
 use Rattle.sheet.proofs.Right.{sheet_of_held}
 use Rattle.sheet.proofs.Written.{sheet_most, held_writable}
 use Rattle.sheet.proofs.Steps.{checked_refused}
-use Rattle.sheet_writer.specs.declared.Writing.TheVariants as writing
 use Rattle.sheet_writer.specs.Writer.{rows_for, handed, IsNarrow, write_rows, write_refusal, Writes}
 use Rattle.sheet_writer.specs.Promised.{Written}
 use Rattle.sheet_writer.proofs.Handed.{write_ranked}
 use Rattle.sheet_writer.proofs.Laws.{handed_back, none_refused, write_answered}
-use Rattle.sheet_editor.specs.declared.Editing.{Editing}
-use Rattle.sheet_editor.specs.declared.Editing.TheVariants.{Edited, Refused}
+use Rattle.sheet_editor.specs.Answers.{Editing}
 use Rattle.sheet_editor.specs.declared.Fault.TheVariants.{WrongSheet, NothingThere}
 use Rattle.sheet_editor.specs.Editor.{without, SameKey, same_key, remove_refusal, Removes}
 use Rattle.sheet_editor.specs.Promised.{Kept}
@@ -42,10 +40,8 @@ use Rattle.sheet_editor.proofs.Laws.{removes_done, removed_there, remove_kept}
 use Rattle.sheet_line.specs.Line.{fault_word}
 use Rattle.sheet_line.specs.declared.Fault.{Fault as LineFault}
 use Rattle.sheet_line.specs.declared.Fault.TheVariants as line
-use Rattle.sheet_line.specs.declared.Line.TheVariants.{Nothing, Is, Wrong}
 use Rattle.sheet_line.proofs.There.{Proper}
-use Rattle.sheet_teller.specs.declared.Telling.{Telling}
-use Rattle.sheet_teller.specs.declared.Telling.TheVariants.{Told}
+use Rattle.sheet_teller.specs.Answers.{Telling}
 use Rattle.sheet_teller.specs.Teller.{text_of, show_refusal, Shows}
 use Rattle.sheet_teller.proofs.Laws.{show_done}
 use Rattle.sheet_maker.specs.declared.Making.{Making}
@@ -99,7 +95,7 @@ made_of text list room size list' room' p =
     let d = is_made (sheet_of ss) room (length (sheet_of ss)) room' (bad_in text) (make_refusal text room) size p.0 p.2 in
     let clean : reports_of text ≡ [] = none_bad text d.0 in
     let back = handed_text text in
-    let wrote : Writes (rows_for ss) (values_for ss) room (writing.Written size) room' = rw (d.1, back) (ap writing.Written d.2, d.3) in
+    let wrote : Writes (rows_for ss) (values_for ss) room (Ok size) room' = rw (d.1, back) (ap Ok d.2, d.3) in
     let w : Written (rows_for ss) (values_for ss) room size room' = write_answered (rows_for ss) (values_for ss) room size room' wrote in (
       record {
         no_report = clean;
@@ -168,7 +164,7 @@ make_fits text list room r list' room' wide clean p =
 -- ---- there: `show` writes what `make` reads
 
 pub shown_made : (sheet room : List ℕ) (n : ℕ) (room' list space : List ℕ) (r : Making) (list' space' : List ℕ) → Bytes sheet
-    → Shows sheet room (Told n) room' → n ≤ length room → Makes (take n room') list space r list' space' → length sheet ≤ length space
+    → Shows sheet room (Ok n) room' → n ≤ length room → Makes (take n room') list space r list' space' → length sheet ≤ length space
     → (r ≡ making.Made (length sheet)) × (list' ≡ list) × (space' ≡ over sheet space)
 shown_made sheet room n room' list space r list' space' bytes shows fits makes wide =
     let d = show_done sheet room n room' shows in
@@ -189,7 +185,7 @@ unfolding show_refusal
 show_right sheet right = rw (none_wrong sheet right) refl
 
 pub made_shown : (text list room : List ℕ) (size : ℕ) (list' room' space : List ℕ) (r : Telling) (space' : List ℕ) → CanonicalText text
-    → Makes text list room (making.Made size) list' room' → Shows (take size room') space r space' → (r ≡ Told (length text)) × (space' ≡ over text space)
+    → Makes text list room (making.Made size) list' room' → Shows (take size room') space r space' → (r ≡ Ok (length text)) × (space' ≡ over text space)
 made_shown text list room size list' room' space r space' c makes shows =
     let m : MadeOf text room size room' = (made_of text list room size list' room' makes).0 in
     rw (show_right (take size room') m.is_right, m.holds, text_back text c) at shows
@@ -213,7 +209,7 @@ made_bytes text list room size list' room' makes =
     (bytes_sheet (settings_of text) (text_proper text))
 
 pub made_again : (text list room : List ℕ) (size : ℕ) (list' room' space : List ℕ) (n : ℕ) (space' told other : List ℕ) (r : Making) (told' other' : List ℕ)
-    → Makes text list room (making.Made size) list' room' → Shows (take size room') space (Told n) space' → n ≤ length space
+    → Makes text list room (making.Made size) list' room' → Shows (take size room') space (Ok n) space' → n ≤ length space
     → Makes (take n space') told other r told' other' → size ≤ length other
     → (r ≡ making.Made size) × (told' ≡ told) × (other' ≡ over (take size room') other)
 made_again text list room size list' room' space n space' told other r told' other' makes shows fits again wide =
@@ -229,7 +225,7 @@ made_again text list room size list' room' space n space' told other r told' oth
 pub register_removed : (room : List ℕ) (size unit register i : ℕ) (r : Editing) (room' : List ℕ) → size ≤ length room → Right (take size room)
     → (k : ℕ) → k < length (held (take size room)) → (named (held (take size room)) k).unit ≡ unit → (named (held (take size room)) k).register ≡ register
     → Finds (take size room) unit register i → Removes room size i r room'
-    → (r ≡ Edited (length (sheet_of (besides unit register (held (take size room))))))
+    → (r ≡ Ok (length (sheet_of (besides unit register (held (take size room))))))
     × (room' ≡ over (sheet_of (besides unit register (held (take size room)))) room)
 unfolding SameKey
 register_removed room size unit register i r room' fits right k l same_unit same_register finds removes =
@@ -246,7 +242,7 @@ register_removed room size unit register i r room' fits right k l same_unit same
         elim (dec_lt i (length (held (take size room)))) [ yes h ↦ h | no h ↦ clash (let z = sym there ∙ e.before k (omega arith) in cc) ]
 
 -- and then the new sheet is right, and holds all but that one
-pub register_kept : (room : List ℕ) (size unit register i n : ℕ) (room' : List ℕ) → Finds (take size room) unit register i → Removes room size i (Edited n) room'
+pub register_kept : (room : List ℕ) (size unit register i n : ℕ) (room' : List ℕ) → Finds (take size room) unit register i → Removes room size i (Ok n) room'
     → Kept room size (besides unit register (held (take size room))) n room'
 register_kept room size unit register i n room' finds removes =
     let k : Kept room size (without i (held (take size room))) n room' = remove_kept room size i n room' removes in
@@ -255,7 +251,7 @@ register_kept room size unit register i n room' finds removes =
 -- none has it: 77
 pub register_missing : (room : List ℕ) (size unit register i : ℕ) (r : Editing) (room' : List ℕ) → size ≤ length room → Right (take size room)
     → ((k : ℕ) → k < length (held (take size room)) → ((named (held (take size room)) k).unit ≡ unit) × ((named (held (take size room)) k).register ≡ register) → ⊥)
-    → Finds (take size room) unit register i → Removes room size i r room' → (r ≡ Refused NothingThere) × (room' ≡ room)
+    → Finds (take size room) unit register i → Removes room size i r room' → (r ≡ Err NothingThere) × (room' ≡ room)
 unfolding remove_refusal SameKey
 register_missing room size unit register i r room' fits right missing finds removes =
     let place = found_place (take size room) unit register i right finds in
@@ -265,8 +261,8 @@ register_missing room size unit register i r room' fits right missing finds remo
     rw (le-ltb (length room) size fits, none_wrong (take size room) right, le-leb (length (held (take size room))) i (omega (arith, all))) at removes
 
 -- a sheet that is not right is refused as `check` refuses it, whatever was found
-pub register_refused : (room : List ℕ) (size i : ℕ) (f : SheetFault) (r : Editing) (room' : List ℕ) → size ≤ length room → Checks (take size room) (checked.Refused f)
-    → Removes room size i r room' → (r ≡ Refused (WrongSheet f)) × (room' ≡ room)
+pub register_refused : (room : List ℕ) (size i : ℕ) (f : SheetFault) (r : Editing) (room' : List ℕ) → size ≤ length room → Checks (take size room) (Err f)
+    → Removes room size i r room' → (r ≡ Err (WrongSheet f)) × (room' ≡ room)
 unfolding remove_refusal
 register_refused room size i f r room' fits checks removes =
     rw (le-ltb (length room) size fits, checked_refused (check_refusal (take size room)) (count_in (take size room)) f checks) at removes
@@ -303,11 +299,11 @@ lines_plainly = (refl, refl, lines_end)
 -- what is told of a line that says nothing, of one that is wrong, and of one that is right in itself: where 128 stand before it, where it is above the
 -- nearest before it, and where it is not
 pub report_plainly : (number many : ℕ) (before : Head) (f : LineFault) (r : Record)
-    → (report_of number many before Nothing ≡ [])
-    × (report_of number many before (Wrong f) ≡ number ∷ fault_word f ∷ key_of f ∷ [])
-    × (128 ≤ many → report_of number many before (Is r) ≡ number ∷ 0 ∷ 9 ∷ [])
-    × (many < 128 → Above before r.head → report_of number many before (Is r) ≡ [])
-    × (many < 128 → (Above before r.head → ⊥) → report_of number many before (Is r) ≡ number ∷ 0 ∷ 10 ∷ [])
+    → (report_of number many before (Ok None) ≡ [])
+    × (report_of number many before (Err f) ≡ number ∷ fault_word f ∷ key_of f ∷ [])
+    × (128 ≤ many → report_of number many before (Ok (Some r)) ≡ number ∷ 0 ∷ 9 ∷ [])
+    × (many < 128 → Above before r.head → report_of number many before (Ok (Some r)) ≡ [])
+    × (many < 128 → (Above before r.head → ⊥) → report_of number many before (Ok (Some r)) ≡ number ∷ 0 ∷ 10 ∷ [])
 report_plainly number many before f r = (
   refl,
   refl,
@@ -317,14 +313,14 @@ report_plainly number many before f r = (
 )
 
 -- the first that is right in itself is never out of order
-pub first_plainly : (number : ℕ) (line : List ℕ) (r : Record) → said line ≡ Is r → report_of number 0 (head 0 0 0 0) (Is r) ≡ []
+pub first_plainly : (number : ℕ) (line : List ℕ) (r : Record) → said line ≡ Ok (Some r) → report_of number 0 (head 0 0 0 0) (Ok (Some r)) ≡ []
 first_plainly number line r is = rw (told_true (decides_above (head 0 0 0 0) r.head) (above_none r.head (said_so line r is).allowed)) refl
 
 -- and how it counts for the lines behind it: only what is right in itself does, whatever else is told of it
 pub counts_plainly : (many : ℕ) (before : Head) (f : LineFault) (r : Record)
-    → ((many_after many Nothing ≡ many) × (nearest before Nothing ≡ before))
-    × ((many_after many (Wrong f) ≡ many) × (nearest before (Wrong f) ≡ before))
-    × ((many < 128 → many_after many (Is r) ≡ suc many) × (nearest before (Is r) ≡ r.head))
+    → ((many_after many (Ok None) ≡ many) × (nearest before (Ok None) ≡ before))
+    × ((many_after many (Err f) ≡ many) × (nearest before (Err f) ≡ before))
+    × ((many < 128 → many_after many (Ok (Some r)) ≡ suc many) × (nearest before (Ok (Some r)) ≡ r.head))
 counts_plainly many before f r = ((refl, refl), (refl, refl), (λ l. rw (lt-leb 128 many l) refl, refl))
 
 -- the keys of a line that is wrong, in the table's order

@@ -1,5 +1,6 @@
 -- What the laws of texts ask for is met: by the page's example, and by a text that is bad.
 -- Assumes nothing.
+use Rattle.std.specs.Prelude.{Ok, Err}
 use mathlib.Core.Path.{◌≡◌, refl, ap, subst, ◌∙◌}
 use mathlib.Core.List.{List, [], ◌∷◌}
 use Prim.Native.Nat.{ℕ}
@@ -15,10 +16,8 @@ use Rattle.sheet_line.specs.Words.{plain, is_blank, with_word, onto, parted, wor
 use Rattle.sheet_line.specs.Line.{name_of, kind_of, small_at, head_in, is_no_number, is_unfit, line_refusal, said_by}
 use Rattle.text.specs.Text.{ascii}
 use Rattle.setting.specs.declared.Fault.TheVariants.{NoRoom, ShortSheet}
-use Rattle.sheet.specs.declared.Checked.TheVariants as checked
 use Rattle.sheet.specs.Sheet.{sheet_of, Right, field_at, count_in, records_in, held, Checks}
 use Rattle.sheet.proofs.Steps.{check_short}
-use Rattle.sheet_teller.specs.declared.Telling.TheVariants.{Told}
 use Rattle.sheet_teller.specs.Teller.{text_of, show_refusal, Shows}
 use Rattle.sheet_maker.specs.declared.Making.{Making}
 use Rattle.sheet_maker.specs.declared.Making.TheVariants as making
@@ -55,7 +54,7 @@ page_sheet_lem = (page_held.is_right, page_held.holds, subst Bytes page_made (by
 pub page_canonical : CanonicalText page_shown
 page_canonical = subst CanonicalText page_shown_lem (text_canonical (settings_of page_text) (text_proper page_text))
 
-pub page_shows : Shows page_sheet (replicate 57 0) (Told 57) page_shown
+pub page_shows : Shows page_sheet (replicate 57 0) (Ok 57) page_shown
 unfolding over show_refusal
 page_shows =
     let text : text_of (held page_sheet) ≡ page_shown = ap text_of page_sheet_lem.1 ∙ page_shown_lem in
@@ -96,5 +95,5 @@ page_found = rw (none_wrong page_sheet page_sheet_lem.0) (refl, refl)
 
 -- ---- a sheet that is not right
 
-pub no_sheet : Checks [] (checked.Refused ShortSheet)
+pub no_sheet : Checks [] (Err ShortSheet)
 no_sheet = check_short [] (omega arith)

@@ -1,5 +1,6 @@
 -- The definitions that a text, an added line and a call are told by, said out: none of them can be another and all else stay.
 -- Assumes nothing.
+use Rattle.std.specs.Prelude.{Ok, Err, Some, None}
 use mathlib.Core.Path.{◌≡◌, refl, ap, ◌∙◌}
 use mathlib.Core.List.{List, [], ◌∷◌, ◌++◌}
 use mathlib.Core.Option.{Option, some, none}
@@ -12,18 +13,15 @@ use Rattle.setting.specs.declared.Head.{Head}
 use Rattle.setting.specs.declared.Fault.{Fault as SheetFault}
 use Rattle.setting.specs.Setting.{head, Setting}
 use Rattle.sheet.specs.declared.Record.{Record}
-use Rattle.sheet.specs.declared.Checked.TheVariants as checked
 use Rattle.sheet.specs.Sheet.{sheet_of, Right, count_in, held, check_refusal, Checks}
 use Rattle.sheet.proofs.Steps.{checked_refused}
-use Rattle.sheet_editor.specs.declared.Editing.{Editing}
-use Rattle.sheet_editor.specs.declared.Editing.TheVariants.{Edited, Refused}
+use Rattle.sheet_editor.specs.Answers.{Editing}
 use Rattle.sheet_editor.specs.declared.Fault.{Fault as EditFault}
 use Rattle.sheet_editor.specs.declared.Fault.TheVariants.{Overstated, WrongSheet}
 use Rattle.sheet_editor.specs.Editor.{among, add_refusal, edit_answer, Adds}
 use Rattle.sheet_line.specs.Words.{words_of}
 use Rattle.sheet_line.specs.Line.{said_by, head_in, value_in, setting_in, Reads}
-use Rattle.sheet_line.specs.declared.Line.{Line}
-use Rattle.sheet_line.specs.declared.Line.TheVariants.{Nothing, Is, Wrong}
+use Rattle.sheet_line.specs.Answers.{Line}
 use Rattle.sheet_line.specs.declared.Fault.{Fault as LineFault}
 use Rattle.sheet_line.specs.declared.Fault.TheVariants.{FewWords}
 use Rattle.sheet_maker.specs.declared.Making.{Making}
@@ -44,7 +42,7 @@ said_read line room r room' long reads = reads.0 ∙ ap (said_by (words_of line)
 -- ---- the settings of a text: line by line, of each that says one that one
 
 pub setting_plainly : (line : List ℕ) (f : LineFault) (r : Record)
-    → (setting_of Nothing line ≡ []) × (setting_of (Wrong f) line ≡ []) × (setting_of (Is r) line ≡ setting_in (words_of line) ∷ [])
+    → (setting_of (Ok None) line ≡ []) × (setting_of (Err f) line ≡ []) × (setting_of (Ok (Some r)) line ≡ setting_in (words_of line) ∷ [])
 setting_plainly line f r = (refl, refl, refl)
 
 pub settings_cut : (line rest : List ℕ) → Plain line → settings_of (line ++ (10 ∷ rest)) ≡ setting_of (said line) line ++ settings_of rest
@@ -69,7 +67,7 @@ unfolding reports_of
 reports_from_lem text = refl
 
 -- once there are 128, there are 128 for every line behind
-pub full_plainly : (many : ℕ) (r : Record) → 128 ≤ many → many_after many (Is r) ≡ many
+pub full_plainly : (many : ℕ) (r : Record) → 128 ≤ many → many_after many (Ok (Some r)) ≡ many
 full_plainly many r l = rw (le-leb 128 many l) refl
 
 -- a text with a bad line makes no sheet, whatever the room is: each bad line is told
@@ -91,7 +89,7 @@ make_bad text list room r list' room' bad p =
 -- ---- a line added: "a sheet that is not right is told first (65 to 70), then the line's own key, then 78, 79"
 
 pub add_sheet_first : (room : List ℕ) (size : ℕ) (line : List ℕ) (f : SheetFault) (r : Adding) (room' : List ℕ) → size ≤ length room
-    → Checks (take size room) (checked.Refused f) → AddsLine room size line r room' → (r ≡ adding.Refused (WrongSheet f)) × (room' ≡ room)
+    → Checks (take size room) (Err f) → AddsLine room size line r room' → (r ≡ adding.Refused (WrongSheet f)) × (room' ≡ room)
 unfolding add_refusal
 add_sheet_first room size line f r room' fits checks adds = go (said line) adds
   where
@@ -99,9 +97,9 @@ add_sheet_first room size line f r room' fits checks adds = go (said line) adds
     so = checked_refused (check_refusal (take size room)) (count_in (take size room)) f checks
 
     go : (what : Line) → (r ≡ add_answer what line room size) × (room' ≡ add_room what line room size) → (r ≡ adding.Refused (WrongSheet f)) × (room' ≡ room)
-    go Nothing p = rw (le-ltb (length room) size fits, so) at p
-    go (Wrong g) p = rw (le-ltb (length room) size fits, so) at p
-    go (Is n) p = rw (le-ltb (length room) size fits, so) at p
+    go (Ok None) p = rw (le-ltb (length room) size fits, so) at p
+    go (Err g) p = rw (le-ltb (length room) size fits, so) at p
+    go (Ok (Some n)) p = rw (le-ltb (length room) size fits, so) at p
 
 -- and so is a length that is stated over the room
 pub add_overstated : (room : List ℕ) (size : ℕ) (line : List ℕ) (r : Adding) (room' : List ℕ) → length room < size → AddsLine room size line r room'
@@ -110,25 +108,25 @@ unfolding add_refusal
 add_overstated room size line r room' over_long adds = go (said line) adds
   where
     go : (what : Line) → (r ≡ add_answer what line room size) × (room' ≡ add_room what line room size) → (r ≡ adding.Refused Overstated) × (room' ≡ room)
-    go Nothing p = rw (lt-ltb (length room) size over_long) at p
-    go (Wrong g) p = rw (lt-ltb (length room) size over_long) at p
-    go (Is n) p = rw (lt-ltb (length room) size over_long) at p
+    go (Ok None) p = rw (lt-ltb (length room) size over_long) at p
+    go (Err g) p = rw (lt-ltb (length room) size over_long) at p
+    go (Ok (Some n)) p = rw (lt-ltb (length room) size over_long) at p
 
 pub add_line_wrong : (room : List ℕ) (size : ℕ) (line : List ℕ) (f : LineFault) (r : Adding) (room' : List ℕ) → size ≤ length room → Right (take size room)
-    → said line ≡ Wrong f → AddsLine room size line r room' → (r ≡ adding.Wrong f) × (room' ≡ room)
+    → said line ≡ Err f → AddsLine room size line r room' → (r ≡ adding.Wrong f) × (room' ≡ room)
 add_line_wrong room size line f r room' fits right is adds = rw (is, le-ltb (length room) size fits, none_wrong (take size room) right) at adds
 
 -- "without a word it is `words`"
 pub add_line_nothing : (room : List ℕ) (size : ℕ) (line : List ℕ) (r : Adding) (room' : List ℕ) → size ≤ length room → Right (take size room)
-    → said line ≡ Nothing → AddsLine room size line r room' → (r ≡ adding.Wrong FewWords) × (room' ≡ room)
+    → said line ≡ Ok None → AddsLine room size line r room' → (r ≡ adding.Wrong FewWords) × (room' ≡ room)
 add_line_nothing room size line r room' fits right is adds = rw (is, le-ltb (length room) size fits, none_wrong (take size room) right) at adds
 
 -- and a line that says a setting adds it as the editor does: all of its laws hold of it
 abbrev pub added : Editing → Adding
-added (Edited size) = adding.Added size
-added (Refused f) = adding.Refused f
+added (Ok size) = adding.Added size
+added (Err f) = adding.Refused f
 
-pub add_line_is : (room : List ℕ) (size : ℕ) (line : List ℕ) (n : Record) (r : Adding) (room' : List ℕ) → said line ≡ Is n → AddsLine room size line r room'
+pub add_line_is : (room : List ℕ) (size : ℕ) (line : List ℕ) (n : Record) (r : Adding) (room' : List ℕ) → said line ≡ Ok (Some n) → AddsLine room size line r room'
     → (e : Editing) × (Adds room size (head_in (words_of line)) (value_in (words_of line)) e room' × (r ≡ added e))
 unfolding setting_in
 add_line_is room size line n r room' is adds =
@@ -150,5 +148,5 @@ pub keys_beyond : (k : ℕ) → 10 < k → number_of_key k ≡ 0
 unfolding number_of_key
 keys_beyond k l = get_or-eq_default key_numbers 0 {n = k} (omega (arith, l))
 
-pub found_refused : (sheet : List ℕ) (unit register i : ℕ) (f : SheetFault) → Checks sheet (checked.Refused f) → Finds sheet unit register i → i ≡ 0
+pub found_refused : (sheet : List ℕ) (unit register i : ℕ) (f : SheetFault) → Checks sheet (Err f) → Finds sheet unit register i → i ≡ 0
 found_refused sheet unit register i f checks finds = rw (checked_refused (check_refusal sheet) (count_in sheet) f checks) at finds

@@ -1,5 +1,6 @@
 -- What it means that no line of a text is bad: its settings can be written.
 -- Assumes nothing.
+use Rattle.std.specs.Prelude.{Ok, Err, Some, None}
 use mathlib.Core.Path.{◌≡◌, refl}
 use mathlib.Core.Bool.{Bool, true, false, cond}
 use mathlib.Core.List.{List, [], ◌∷◌, ◌++◌}
@@ -17,8 +18,7 @@ use Rattle.sheet.specs.Sheet.{named, Writable}
 use Rattle.sheet_editor.proofs.Rising.{Each, each_at}
 use Rattle.sheet_line.specs.Words.{words_of}
 use Rattle.sheet_line.specs.Line.{setting_in}
-use Rattle.sheet_line.specs.declared.Line.{Line}
-use Rattle.sheet_line.specs.declared.Line.TheVariants.{Nothing, Is, Wrong}
+use Rattle.sheet_line.specs.Answers.{Line}
 use Rattle.sheet_maker.specs.Maker.{lines_of, said, setting_of, settings_from, settings_of, report_of, many_after, nearest, reports_from, reports_of, bad_in}
 use Rattle.sheet_maker.proofs.Whole.{said_so, settings_sized}
 
@@ -29,9 +29,9 @@ abbrev Threes : List ℕ → Type 0
 Threes told = (k : ℕ) × (length told ≡ 3 * k)
 
 report_threes : (number many : ℕ) (before : Head) (what : Line) (rest : List ℕ) → Threes rest → Threes (report_of number many before what ++ rest)
-report_threes number many before Nothing rest t = t
-report_threes number many before (Wrong f) rest t = (suc t.0, omega (arith, t.1))
-report_threes number many before (Is r) rest t = go (leb 128 many) (is_above before r.head)
+report_threes number many before (Ok None) rest t = t
+report_threes number many before (Err f) rest t = (suc t.0, omega (arith, t.1))
+report_threes number many before (Ok (Some r)) rest t = go (leb 128 many) (is_above before r.head)
   where
     go : (full above : Bool) → Threes (cond full (number ∷ 0 ∷ 9 ∷ []) (cond above [] (number ∷ 0 ∷ 10 ∷ [])) ++ rest)
     go true above = (suc t.0, omega (arith, t.1))
@@ -82,7 +82,7 @@ nothing_told : (xs ys : List ℕ) → xs ++ ys ≡ [] → (xs ≡ []) × (ys ≡
 nothing_told [] ys e = (refl, e)
 nothing_told (x ∷ xs) ys e = clash (cc)
 
-placed : (number many : ℕ) (before : Head) (r : Record) → report_of number many before (Is r) ≡ [] → (many < 128) × (is_above before r.head ≡ true)
+placed : (number many : ℕ) (before : Head) (r : Record) → report_of number many before (Ok (Some r)) ≡ [] → (many < 128) × (is_above before r.head ≡ true)
 placed number many before r e = go (leb 128 many) (is_above before r.head) refl refl e
   where
     go : (full above : Bool) → leb 128 many ≡ full → is_above before r.head ≡ above
@@ -96,7 +96,7 @@ record Fine (many : ℕ) (before : Head) (settings : List Setting) : Type 0 wher
   climbs : Climbs before settings
   allowed : Each (λ s. Allowed s.named) settings
 
-fine_more : (many : ℕ) (before : Head) (line : List ℕ) (r : Record) (rest : List Setting) → said line ≡ Is r → is_above before r.head ≡ true
+fine_more : (many : ℕ) (before : Head) (line : List ℕ) (r : Record) (rest : List Setting) → said line ≡ Ok (Some r) → is_above before r.head ≡ true
     → Fine (suc many) r.head rest → Fine many before (setting_in (words_of line) ∷ rest)
 unfolding Each setting_in
 fine_more many before line r rest is above f =
@@ -117,9 +117,9 @@ fine number many before (line ∷ lines) few e =
     go : (what : Line) → said line ≡ what → report_of number many before what ≡ []
         → (many_after many what ≤ 128 → Fine (many_after many what) (nearest before what) (settings_from lines))
         → Fine many before (setting_of what line ++ settings_from lines)
-    go Nothing is none_here later = later few
-    go (Wrong f) is none_here later = clash (cc)
-    go (Is r) is none_here later =
+    go (Ok None) is none_here later = later few
+    go (Err f) is none_here later = clash (cc)
+    go (Ok (Some r)) is none_here later =
         let p = placed number many before r none_here in
         let next : suc many ≤ 128 → Fine (suc many) r.head (settings_from lines) = rw (lt-leb 128 many p.0) at later in
         fine_more many before line r (settings_from lines) is p.1 (next p.0)

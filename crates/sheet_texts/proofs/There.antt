@@ -1,5 +1,6 @@
 -- There: the text of settings reads as these settings, and no line of it is bad.
 -- Assumes nothing.
+use Rattle.std.specs.Prelude.{Ok, Some, None}
 use mathlib.Core.Path.{◌≡◌, refl, sym, ap, ap₂, subst, ◌∙◌}
 use mathlib.Core.List.{List, [], ◌∷◌, ◌++◌, append_assoc}
 use mathlib.Core.Logic.{◌≢◌, inl}
@@ -21,7 +22,6 @@ use Rattle.sheet.proofs.Written.{held_long, held_writable}
 use Rattle.sheet_editor.proofs.Rising.{Each, each_by}
 use Rattle.sheet_line.specs.Words.{plain, parted, with_word, words_in, words_of}
 use Rattle.sheet_line.specs.Line.{said_by, setting_in, line_of, Canonical}
-use Rattle.sheet_line.specs.declared.Line.TheVariants.{Nothing, Is}
 use Rattle.sheet_line.proofs.Joined.{Every, every_at, at_every}
 use Rattle.sheet_line.proofs.Written.{line_plain}
 use Rattle.sheet_line.proofs.There.{Proper, line_reads, line_value, line_canonical}
@@ -55,7 +55,7 @@ text_lines (s ∷ rest) =
 
 -- ---- each says its setting, and the empty one nothing
 
-line_says : (s : Setting) → Proper s → said (line_of s) ≡ Is (record_as s.named)
+line_says : (s : Setting) → Proper s → said (line_of s) ≡ Ok (Some (record_as s.named))
 line_says s p = line_reads s p (replicate 240 0) (length_allowed s.named p.allowed)
 
 line_back : (s : Setting) → Proper s → setting_in (words_of (line_of s)) ≡ s
@@ -64,7 +64,7 @@ line_back s p =
     let so = said_so (line_of s) (record_as s.named) (line_says s p) in
     ap₂ (λ (h : Head) (v : List ℕ). setting h v) (sym so.named) (line_value s p)
 
-pub said_none : said [] ≡ Nothing
+pub said_none : said [] ≡ Ok None
 unfolding said_by words_of words_in plain parted with_word
 said_none = refl
 
@@ -104,7 +104,7 @@ canonical_lines [] each = tt
 canonical_lines (s ∷ rest) each = (line_canonical s each.0, canonical_lines rest each.1)
 
 abbrev pub Says : List ℕ → Type 0
-Says line = (r : Record) × (said line ≡ Is r)
+Says line = (r : Record) × (said line ≡ Ok (Some r))
 
 saying_lines : (settings : List Setting) → Each Proper settings → Every Says (lines_for settings)
 unfolding Each

@@ -1,6 +1,6 @@
 -- What is told of texts: docs/SHEETS.md's table of keys, both sides of each limit, ranking where several apply, and its own example. Computed.
 -- Assumes nothing.
-use Rattle.std.specs.Prelude.{◌≡◌, Bool, true, ◌&&◌, List, [], ◌∷◌, ◌++◌, ℕ}
+use Rattle.std.specs.Prelude.{Bool, true, ◌&&◌, List, [], ◌∷◌, ◌++◌, ℕ}
 use Prim.Native.String.{String}
 use Rattle.text.specs.Text.{ascii, newline}
 use Rattle.sheet_line.specs.Words.{same}

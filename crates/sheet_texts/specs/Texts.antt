@@ -1,12 +1,11 @@
 -- A sheet and its text, there and back; and the sheet without one register. docs/SHEETS.md.
 -- Assumes nothing.
-use Rattle.std.specs.Prelude.{◌≡◌, cond, List, [], ◌∷◌, ◌++◌, ℕ, ◌≤◌, ◌<◌, length, get_or, take, drop}
+use Rattle.std.specs.Prelude.{◌≡◌, cond, List, [], ◌∷◌, ◌++◌, ℕ, ◌≤◌, ◌<◌, length, get_or, take, drop, Ok, Some}
 use Rattle.setting.specs.Setting.{Setting}
 use Rattle.sheet.specs.declared.Record.{Record}
 use Rattle.sheet.specs.Sheet.{sheet_of, Writable, Right, held}
 use Rattle.sheet_editor.specs.Editor.{same_key}
 use Rattle.sheet_line.specs.Line.{Canonical}
-use Rattle.sheet_line.specs.declared.Line.TheVariants.{Is}
 use Rattle.sheet_maker.specs.Maker.{lines_of, said, settings_of, reports_of, key_for}
 
 -- "As `show` writes it": each line is as it is written and says a setting, a newline ends it, and nothing stands behind the last one
@@ -14,7 +13,7 @@ pub record CanonicalText (text : List ℕ) : Type 0 where
   pub lines : List (List ℕ)
   pub cut : lines_of text ≡ lines ++ ([] ∷ [])
   pub each : (k : ℕ) → k < length lines → Canonical (get_or lines k [])
-  pub says : (k : ℕ) → k < length lines → (r : Record) × (said (get_or lines k []) ≡ Is r)
+  pub says : (k : ℕ) → k < length lines → (r : Record) × (said (get_or lines k []) ≡ Ok (Some r))
 
 -- a sheet was made of a text: no line is bad, and it is the sheet of the text's settings
 pub record MadeOf (text room : List ℕ) (size : ℕ) (room' : List ℕ) : Type 0 where

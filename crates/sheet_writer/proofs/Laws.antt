@@ -1,5 +1,6 @@
 -- What is promised of writing a sheet: the laws that callers may cite.
 -- Assumes nothing.
+use Rattle.std.specs.Prelude.{Ok, Err}
 use mathlib.Core.Path.{◌≡◌, refl, sym, ap, ◌∙◌}
 use mathlib.Core.List.{List, [], ◌∷◌, ◌++◌}
 use mathlib.Core.Bool.{Bool, true, false, not}
@@ -27,8 +28,7 @@ use Rattle.sheet.proofs.Rowed.{rows_by, length-rows, many_rows, heads_by, tails_
 use Rattle.sheet.proofs.Written.{length-values, sheet_right, held_of_sheet, sheet_most}
 use Rattle.sheet_writer.specs.Writer.{rows_for, handed, AreMany, HaveFall, Misstated, HaveWrongLength, HaveUnfit, IsNarrow, write_rows}
 use Rattle.sheet_writer.specs.Writer.{write_refusal, write_answer, write_told, Writes, LaysAgain}
-use Rattle.sheet_writer.specs.declared.Writing.{Writing}
-use Rattle.sheet_writer.specs.declared.Writing.TheVariants as writing
+use Rattle.sheet_writer.specs.Answers.{Writing}
 use Rattle.sheet_writer.specs.Promised.{Written}
 use Rattle.sheet_writer.proofs.Handed.{Stated, stated, handed_exactly, write_ranked, many_handed}
 
@@ -45,11 +45,11 @@ write_exactly rows values room r room' p =
     numbered fault_number (write_rows rows values room) (write_refusal rows values room) (write_ranked rows values room) (79 ∷ 68 ∷ 69 ∷ 57 ∷ []) refl refl
     (write_told r) (ap write_told p.0 ∙ write_tells (write_refusal rows values room) (length (sheet_of (handed rows values))))
 
-pub write_refusal_keeps : (rows values room : List ℕ) (f : Fault) (room' : List ℕ) → Writes rows values room (writing.Refused f) room' → room' ≡ room
+pub write_refusal_keeps : (rows values room : List ℕ) (f : Fault) (room' : List ℕ) → Writes rows values room (Err f) room' → room' ≡ room
 write_refusal_keeps rows values room f room' p = by (write_refusal rows values room) p
   where
     by : (o : Option Fault)
-        → (writing.Refused f ≡ write_answer o (length (sheet_of (handed rows values)))) × (room' ≡ room_after o (sheet_of (handed rows values)) room) → room' ≡ room
+        → (Err f ≡ write_answer o (length (sheet_of (handed rows values)))) × (room' ≡ room_after o (sheet_of (handed rows values)) room) → room' ≡ room
     by (some g) q = q.1
     by none q = clash cc
 
@@ -117,12 +117,12 @@ written_as rows values room e =
       holds = rw taken (held_of_sheet (handed rows values) w);
     }
 
-pub write_answered : (rows values room : List ℕ) (size : ℕ) (room' : List ℕ) → Writes rows values room (writing.Written size) room'
+pub write_answered : (rows values room : List ℕ) (size : ℕ) (room' : List ℕ) → Writes rows values room (Ok size) room'
     → Written rows values room size room'
 write_answered rows values room size room' p = by (write_refusal rows values room) refl p
   where
     by : (o : Option Fault) → write_refusal rows values room ≡ o
-        → (writing.Written size ≡ write_answer o (length (sheet_of (handed rows values)))) × (room' ≡ room_after o (sheet_of (handed rows values)) room)
+        → (Ok size ≡ write_answer o (length (sheet_of (handed rows values)))) × (room' ≡ room_after o (sheet_of (handed rows values)) room)
         → Written rows values room size room'
     by (some f) e q = clash cc
     by none e q =
@@ -130,7 +130,7 @@ write_answered rows values room size room' p = by (write_refusal rows values roo
         rw (is, q.1) (written_as rows values room e)
 
 -- of what was taken, every byte of the rows and of the values stands in the sheet
-pub all_taken : (rows values room : List ℕ) (size : ℕ) (room' : List ℕ) → Bytes rows → Writes rows values room (writing.Written size) room'
+pub all_taken : (rows values room : List ℕ) (size : ℕ) (room' : List ℕ) → Bytes rows → Writes rows values room (Ok size) room'
     → (rows ≡ rows_for (handed rows values)) × (values ≡ values_for (handed rows values))
 all_taken rows values room size room' b p = by (write_refusal rows values room) refl p
   where
@@ -138,7 +138,7 @@ all_taken rows values room size room' b p = by (write_refusal rows values room) 
     right_rows n w = lengths_asked rows values room n w
 
     by : (o : Option Fault) → write_refusal rows values room ≡ o
-        → (writing.Written size ≡ write_answer o (length (sheet_of (handed rows values)))) × (room' ≡ room_after o (sheet_of (handed rows values)) room)
+        → (Ok size ≡ write_answer o (length (sheet_of (handed rows values)))) × (room' ≡ room_after o (sheet_of (handed rows values)) room)
         → (rows ≡ rows_for (handed rows values)) × (values ≡ values_for (handed rows values))
     by (some f) e q = clash cc
     by none e q = handed_exactly rows values b (stated rows values (right_rows (no_rows rows values room e)))
@@ -198,7 +198,7 @@ none_refused settings room w wide = (
 
 pub write_of : (settings : List Setting) (room : List ℕ) (r : Writing) (room' : List ℕ) → Writable settings → length (sheet_of settings) ≤ length room
     → Writes (rows_for settings) (values_for settings) room r room'
-    → (r ≡ writing.Written (length (sheet_of settings))) × (room' ≡ sheet_of settings ++ drop (length (sheet_of settings)) room)
+    → (r ≡ Ok (length (sheet_of settings))) × (room' ≡ sheet_of settings ++ drop (length (sheet_of settings)) room)
 write_of settings room r room' w wide p =
     let none_refuses : write_refusal (rows_for settings) (values_for settings) room ≡ none =
     (done_exactly (write_rows (rows_for settings) (values_for settings) room) (write_refusal (rows_for settings) (values_for settings) room)
@@ -274,7 +274,7 @@ module _ (settings : List Setting) where
               absurd (b (length-values settings each ∙ lengths_same (named settings) (heads (rows_for settings)) (length settings) (λ k l. sym (at k l))))
 
 -- what an answer tells is the number of its fault
-pub told_number : (f : Fault) (k n : ℕ) → Numbers f k → (write_told (writing.Refused f) ≡ some k) × (write_told (writing.Written n) ≡ none)
+pub told_number : (f : Fault) (k n : ℕ) → Numbers f k → (write_told (Err f) ≡ some k) × (write_told (Ok n) ≡ none)
 told_number f k n p = (ap some (sym p), refl)
 
 -- ---- each call is settled

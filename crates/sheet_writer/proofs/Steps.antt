@@ -1,5 +1,6 @@
 -- What the code's steps need.
 -- Assumes nothing.
+use Rattle.std.specs.Prelude.{Ok, Err}
 use mathlib.Core.Path.{◌≡◌, refl, sym, ap, ◌∙◌}
 use mathlib.Core.Bool.{Bool, true, false, not}
 use mathlib.Core.List.{List, [], ◌∷◌, ◌++◌, append_assoc}
@@ -27,8 +28,7 @@ use Rattle.sheet.specs.Sheet.{header_for, record_for, sheet_of}
 use Rattle.sheet.proofs.Rowed.{length_record}
 use Rattle.sheet.proofs.Written.{length_header}
 use Rattle.sheet_writer.specs.Writer.{handed, misstated, is_misstated, write_refusal, laid_from, Writes, Lays, LaysAgain}
-use Rattle.sheet_writer.specs.declared.Writing.{Writing}
-use Rattle.sheet_writer.specs.declared.Writing.TheVariants as writing
+use Rattle.sheet_writer.specs.Answers.{Writing}
 use Rattle.sheet_writer.proofs.Handed.{Stated, stated, decides_lengths, sheet_laid, length_laid}
 
 -- ---- the lengths that are stated
@@ -191,14 +191,14 @@ pub right_lengths : (rows values : List ℕ) → is_misstated rows (length value
 right_lengths rows values e = stated rows values ((decides_lengths rows values).not_so e)
 
 pub lay_narrow : (rows values room : List ℕ) (size : ℕ) → Stated rows values → size ≡ 12 + 8 * (length rows / 8) + length values → length room < size
-    → Lays (sheet_of (handed rows values)) room (writing.Refused NoRoom) room
+    → Lays (sheet_of (handed rows values)) room (Err NoRoom) room
 unfolding rows_in
 lay_narrow rows values room size s e h =
     let long : length (sheet_of (handed rows values)) ≡ size = length_laid rows values s.all ∙ sym e in
     rw (long, lt-ltb (length room) size h) (refl, refl)
 
 pub lay_done : (rows values room room' : List ℕ) (size : ℕ) → Stated rows values → size ≡ 12 + 8 * (length rows / 8) + length values → size ≤ length room
-    → room' ≡ over (sheet_of (handed rows values)) room → Lays (sheet_of (handed rows values)) room (writing.Written size) room'
+    → room' ≡ over (sheet_of (handed rows values)) room → Lays (sheet_of (handed rows values)) room (Ok size) room'
 unfolding rows_in
 lay_done rows values room room' size s e h laid =
     let long : length (sheet_of (handed rows values)) ≡ size = length_laid rows values s.all ∙ sym e in
@@ -206,17 +206,17 @@ lay_done rows values room room' size s e h laid =
 
 -- ---- the whole call, row by row
 
-pub write_many : (rows values room : List ℕ) → 128 < length rows / 8 → Writes rows values room (writing.Refused TooMany) room
+pub write_many : (rows values room : List ℕ) → 128 < length rows / 8 → Writes rows values room (Err TooMany) room
 unfolding write_refusal rows_in
 write_many rows values room h = rw (lt-ltb 128 (length rows / 8) h) (refl, refl)
 
 pub write_falls : (rows values room : List ℕ) (r : ℕ) → length rows / 8 ≤ 128 → r ≡ first_place (falls (heads rows)) (rows_in rows) → r < length rows / 8
-    → Writes rows values room (writing.Refused OutOfOrder) room
+    → Writes rows values room (Err OutOfOrder) room
 unfolding write_refusal rows_in
 write_falls rows values room r few e h = rw (le-ltb 128 (length rows / 8) few, some_found (falls (heads rows)) (length rows / 8) r e h) (refl, refl)
 
 pub write_unfit : (rows values room : List ℕ) (r q : ℕ) → length rows / 8 ≤ 128 → r ≡ first_place (falls (heads rows)) (rows_in rows) → length rows / 8 ≤ r
-    → q ≡ first_place (unfit (heads rows)) (rows_in rows) → q < length rows / 8 → Writes rows values room (writing.Refused NotAllowed) room
+    → q ≡ first_place (unfit (heads rows)) (rows_in rows) → q < length rows / 8 → Writes rows values room (Err NotAllowed) room
 unfolding write_refusal rows_in
 write_unfit rows values room r q few e h f g =
     rw (
@@ -227,7 +227,7 @@ write_unfit rows values room r q few e h f g =
 
 pub write_misstated : (rows values room : List ℕ) (r q : ℕ) {t : Bool} → length rows / 8 ≤ 128 → r ≡ first_place (falls (heads rows)) (rows_in rows) → length rows / 8 ≤ r
     → q ≡ first_place (unfit (heads rows)) (rows_in rows) → length rows / 8 ≤ q → t ≡ is_misstated rows (length values) → t ≡ true
-    → Writes rows values room (writing.Refused NotAllowed) room
+    → Writes rows values room (Err NotAllowed) room
 unfolding write_refusal rows_in
 write_misstated rows values room r q few e h f g m t =
     rw (

@@ -1,6 +1,6 @@
 -- Writing a settings sheet: how settings are handed over, when they are refused, and the bytes of the lent buffer.
 -- Assumes nothing.
-use Rattle.std.specs.Prelude.{◌≡◌, Bool, cond, not, ◌||◌, List, [], ◌∷◌, ◌++◌, ◌⊎◌, ◌≢◌, ℕ, zero, suc, ◌+◌, ◌*◌, ◌<◌, eqb, ltb, length, take, drop}
+use Rattle.std.specs.Prelude.{◌≡◌, Bool, cond, not, ◌||◌, List, [], ◌∷◌, ◌++◌, ◌⊎◌, ◌≢◌, ℕ, zero, suc, ◌+◌, ◌*◌, ◌<◌, eqb, ltb, length, take, drop, Ok, Err}
 use Rattle.std.proofs.Math.Option.{Option, some, none}
 use Rattle.rows.specs.Rows.{Row, row, Test, test, first_row_of}
 use Rattle.setting.specs.declared.Head.{Head}
@@ -9,8 +9,7 @@ use Rattle.setting.specs.declared.Fault.{Fault}
 use Rattle.setting.specs.declared.Fault.TheVariants.{OutOfOrder, NotAllowed, NoRoom, TooMany}
 use Rattle.lent.specs.Lent.{over}
 use Rattle.sheet.specs.Sheet.{header_for, record_for, sheet_of, room_after}
-use Rattle.sheet_writer.specs.declared.Writing.{Writing}
-use Rattle.sheet_writer.specs.declared.Writing.TheVariants as writing
+use Rattle.sheet_writer.specs.Answers.{Writing}
 
 -- ---- settings are handed over as rows of 8 bytes, a sheet's records but for the last number, which says how long the value is; and as
 -- their values, one after the other
@@ -86,12 +85,12 @@ write_refusal rows values room = first_row_of (write_tests rows values room)
 -- ---- the answers
 
 abbrev pub write_answer : Option Fault → ℕ → Writing
-write_answer (some f) size = writing.Refused f
-write_answer none size = writing.Written size
+write_answer (some f) size = Err f
+write_answer none size = Ok size
 
 abbrev pub write_told : Writing → Option ℕ
-write_told (writing.Refused f) = some (fault_number f)
-write_told (writing.Written size) = none
+write_told (Err f) = some (fault_number f)
+write_told (Ok size) = none
 
 -- ---- the contract
 

@@ -11,31 +11,24 @@ ghost use Rattle.sheet_writer.specs.Writer.{Writes, Lays, LaysAgain, handed, is_
 use setting::{Fault, Head, MOST, ROW};
 use sheet::HEADER;
 
-// How long the sheet is that was written.
-#[derive(Clone, Copy)]
-pub enum Writing {
-    Written(usize),
-    Refused(Fault),
-}
-
 // Writes the sheet of these settings into the room's first bytes and answers its length. The rest of
 // the room stays, and a refusal leaves all of it. A row names each setting and says how long its
 // value is; the values stand one after the other.
-pub fn write(rows: &[u8], values: &[u8], room: &mut [u8]) -> Writing
+pub fn write(rows: &[u8], values: &[u8], room: &mut [u8]) -> Result<usize, Fault>
     ensures { Writes rows.now values.now room.old result room.new }
 {
     let n = rows.len() / ROW;
     if MOST < n {
-        return Writing::Refused(Fault::TooMany);
+        return Err(Fault::TooMany);
     }
     if setting::first_fall(rows) < n {
-        return Writing::Refused(Fault::OutOfOrder);
+        return Err(Fault::OutOfOrder);
     }
     if setting::first_unfit(rows) < n {
-        return Writing::Refused(Fault::NotAllowed);
+        return Err(Fault::NotAllowed);
     }
     if is_misstated(rows, values.len()) {
-        return Writing::Refused(Fault::NotAllowed);
+        return Err(Fault::NotAllowed);
     }
     lay(rows, values, room)
 }
@@ -62,7 +55,7 @@ fn is_misstated(rows: &[u8], size: usize) -> bool
 }
 
 // Lays the sheet of settings that are allowed, where there is room for it.
-fn lay(rows: &[u8], values: &[u8], room: &mut [u8]) -> Writing
+fn lay(rows: &[u8], values: &[u8], room: &mut [u8]) -> Result<usize, Fault>
     requires { (length rows.now / 8 ≤ 128) × (is_misstated rows.now (length values.now) ≡ false) }
     ensures { Lays (sheet_of (handed rows.now values.now)) room.old result room.new }
 {
@@ -70,12 +63,12 @@ fn lay(rows: &[u8], values: &[u8], room: &mut [u8]) -> Writing
     let end = HEADER + ROW * n;
     let size = end + values.len();
     if room.len() < size {
-        return Writing::Refused(Fault::NoRoom);
+        return Err(Fault::NoRoom);
     }
     lay_header(n, room);
     lay_records(rows, room);
     lent::lay_at(values, room, end);
-    Writing::Written(size)
+    Ok(size)
 }
 
 // Lays the header of a sheet with n records.

@@ -6,10 +6,8 @@
 ghost use Rattle.io.specs.Counts.{IsPrefixLen};
 ghost use Rattle.std.specs.Prelude.{◌≤◌, length};
 
-use sheet::Checked;
-use sheet_editor::Editing;
 use sheet_maker::{Adding, Making};
-use sheet_teller::{Order, Telling};
+use sheet_teller::Order;
 use std::env::{Env, FillError};
 use std::io::Read;
 use std::rt::HostRuntime;
@@ -272,10 +270,10 @@ fn calls(rt: HostRuntime, order: Order, space: &mut [u8], sheet: &mut [u8]) {
     }
 }
 
-fn told(telling: Telling, text: &[u8]) {
+fn told(telling: Result<usize, sheet_teller::Fault>, text: &[u8]) {
     match telling {
-        Telling::Told(size) => give(text, size),
-        Telling::Refused(fault) => refused(sheet_teller::number(fault)),
+        Ok(size) => give(text, size),
+        Err(fault) => refused(sheet_teller::number(fault)),
     }
 }
 
@@ -287,13 +285,13 @@ fn check(rt: HostRuntime, sheet: &mut [u8]) {
     }
 }
 
-fn checked(outcome: Checked) {
+fn checked(outcome: Result<usize, setting::Fault>) {
     match outcome {
-        Checked::Right(many) => {
+        Ok(many) => {
             count(b"settings ", many as u64);
             say(b"done\n");
         }
-        Checked::Refused(fault) => refused(setting::number(fault)),
+        Err(fault) => refused(setting::number(fault)),
     }
 }
 
@@ -313,10 +311,10 @@ fn remove(rt: HostRuntime, unit: u8, register: u8, sheet: &mut [u8]) {
     }
 }
 
-fn edited(editing: Editing, sheet: &[u8]) {
+fn edited(editing: Result<usize, sheet_editor::Fault>, sheet: &[u8]) {
     match editing {
-        Editing::Edited(size) => give(sheet, size),
-        Editing::Refused(fault) => refused(sheet_editor::number(fault)),
+        Ok(size) => give(sheet, size),
+        Err(fault) => refused(sheet_editor::number(fault)),
     }
 }
 

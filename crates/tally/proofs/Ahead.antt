@@ -1,5 +1,6 @@
 -- What a step ends with does not depend on where its bytes lie: it may be told of a step that is refused for its places.
 -- Assumes nothing.
+use Rattle.std.specs.Prelude.{Ok, Err, Some, None}
 use mathlib.Core.Path.{◌≡◌, refl, sym, ap, ◌∙◌}
 use mathlib.Core.Bool.{Bool, true, false, cond}
 use mathlib.Core.List.{List, [], ◌∷◌}
@@ -12,8 +13,7 @@ use Rattle.lines.specs.declared.Event.{Event}
 use Rattle.lines.specs.declared.Event.TheVariants.{Dropped}
 use Rattle.listing.specs.Events.{placed}
 use Rattle.receiver.specs.Receiver.{no_bytes, outside_at, opened_at, is_inside, passed, grown, next, closing, told, end_or, step_from}
-use Rattle.receiver.specs.declared.Answer.{Answer as Ended}
-use Rattle.receiver.specs.declared.Answer.TheVariants.{Nothing, Line, Refused}
+use Rattle.receiver.specs.Answers.{Answer as Ended}
 use Rattle.receiver.specs.declared.Fault.{Fault as Unplaced}
 use Rattle.receiver.specs.declared.Receiver.{Receiver}
 use Rattle.receiver.specs.declared.Stepped.{Stepped as Ran}
@@ -22,19 +22,19 @@ use Rattle.tally.specs.declared.Tally.{Tally}
 use Rattle.tally.specs.Tally.{is_full, full_at, placed_at}
 
 -- a step over a chunk that is not refused refuses nothing
-pub never_refused : (r : Receiver) (chunk : List ℕ) (f : Unplaced) → (step_from r chunk).answer ≡ Refused f → ⊥
-never_refused r [] f e = let n : Nothing ≡ Refused f = rw (step-none r) at e in clash (cc)
+pub never_refused : (r : Receiver) (chunk : List ℕ) (f : Unplaced) → (step_from r chunk).answer ≡ Err f → ⊥
+never_refused r [] f e = let n : (Ok None) ≡ Err f = rw (step-none r) at e in clash (cc)
 never_refused r (b ∷ rest) f e =
     ⊎_elim
     (λ p. never_refused (next r b) rest f (sym (ap (λ (s : Ran). s.answer) (step_cons r b rest ∙ p.1)) ∙ e))
-    (λ p. let line : (step_from r (b ∷ rest)).answer ≡ Line p.0 = rw (step_cons r b rest) (rw p.1 refl) in clash (cc))
+    (λ p. let line : (step_from r (b ∷ rest)).answer ≡ Ok (Some p.0) = rw (step_cons r b rest) (rw p.1 refl) in clash (cc))
     (on_or_end (told r b) (next r b) (step_from (next r b) rest))
 
 -- the event of what a step ends with, where it ends with a line
 abbrev pub event_in : Ended → List Event
-event_in (Line line) = line.event ∷ []
-event_in Nothing = []
-event_in (Refused f) = []
+event_in (Ok (Some line)) = line.event ∷ []
+event_in (Ok None) = []
+event_in (Err f) = []
 
 full_by_event : (a b : Ended) (tally : Tally) → event_in a ≡ event_in b → full_at a tally ≡ full_at b tally
 full_by_event a b tally e = is a ∙ ap any e ∙ sym (is b)
@@ -44,9 +44,9 @@ full_by_event a b tally e = is a ∙ ap any e ∙ sym (is b)
     any (e ∷ rest) = is_full e tally
 
     is : (a : Ended) → full_at a tally ≡ any (event_in a)
-    is (Line line) = refl
-    is Nothing = refl
-    is (Refused f) = refl
+    is (Ok (Some line)) = refl
+    is (Ok None) = refl
+    is (Err f) = refl
 
 -- a receiver by its parts
 abbrev holding : ℕ → ℕ → ℕ → List ℕ → Receiver
@@ -56,7 +56,7 @@ holding place start size bytes = record { place = place; start = start; size = s
 abbrev end_by : Bool → Bool → Bool → Receiver → ℕ → (Receiver → Ran) → Ended
 end_by inside start end r b rest =
     (end_or
-    (cond inside (cond start (Line (placed r.start Dropped)) (cond end (Line (placed r.start (closing r))) Nothing)) Nothing)
+    (cond inside (cond start (Ok (Some (placed r.start Dropped))) (cond end (Ok (Some (placed r.start (closing r)))) (Ok None))) (Ok None))
     (cond start (opened_at r.place) (cond inside (cond end (outside_at (r.place + 1)) (grown r b)) (passed r)))
     (rest (cond start (opened_at r.place) (cond inside (cond end (outside_at (r.place + 1)) (grown r b)) (passed r))))).answer
 

@@ -1,5 +1,6 @@
 -- What is promised of the line tally, each law under the sentence that it keeps.
 -- Assumes nothing.
+use Rattle.std.specs.Prelude.{Ok, Err, Some, None}
 use mathlib.Core.Path.{◌≡◌, refl, sym, ap, ap₂, ◌∙◌}
 use mathlib.Core.Bool.{Bool, true, false, true≢false}
 use mathlib.Core.List.{List, [], ◌∷◌}
@@ -20,12 +21,10 @@ use Rattle.lines.specs.declared.Placed.{Placed}
 use Rattle.listing.specs.Events.{total, is_ok, is_refused, is_dropped}
 use Rattle.listing.proofs.Events.{one_total}
 use Rattle.receiver.specs.Receiver.{CarriesPast, is_past, step_from, Steps}
-use Rattle.receiver.specs.declared.Answer.{Answer as Ended}
-use Rattle.receiver.specs.declared.Answer.TheVariants as ended
+use Rattle.receiver.specs.Answers.{Answer as Ended}
 use Rattle.receiver.specs.declared.Receiver.{Receiver}
 use Rattle.receiver.specs.declared.Stepped.{Stepped as Ran}
 use Rattle.receiver.proofs.Laws.{tests_right}
-use Rattle.tally.specs.declared.Answer.TheVariants.{Nothing, Line, Refused}
 use Rattle.tally.specs.declared.Counted.{Counted}
 use Rattle.tally.specs.declared.Fault.{Fault}
 use Rattle.tally.specs.declared.Fault.TheVariants.{TallyFull}
@@ -41,16 +40,16 @@ use Rattle.tally.proofs.Returns.{not_past, is_past_lem, refusal_is}
 
 -- the number of what a step ends with
 abbrev number_at : Ended → Tally → ℕ
-number_at (ended.Line line) t = number_for line.event t
-number_at ended.Nothing t = 0
-number_at (ended.Refused f) t = 0
+number_at (Ok (Some line)) t = number_for line.event t
+number_at (Ok None) t = 0
+number_at (Err f) t = 0
 
 pub decides_full : (t : Tally) (r : Receiver) (chunk : List ℕ) → Decides (full_at (step_from r chunk).answer t) (IsTallyFull t r chunk)
 unfolding IsTallyFull
 decides_full t r chunk = go (step_from r chunk).answer refl
   where
-    go : (a : Ended) → (step_from r chunk).answer ≡ a → Decides (full_at a t) ((line : Placed) × ((step_from r chunk).answer ≡ ended.Line line) × (most < number_for line.event t + 1))
-    go (ended.Line line) e =
+    go : (a : Ended) → (step_from r chunk).answer ≡ a → Decides (full_at a t) ((line : Placed) × ((step_from r chunk).answer ≡ Ok (Some line)) × (most < number_for line.event t + 1))
+    go (Ok (Some line)) e =
         record {
           so = λ f. (line, e, ltb-true most (number_for line.event t + 1) f);
           not_so = λ f full.
@@ -59,8 +58,8 @@ decides_full t r chunk = go (step_from r chunk).answer refl
               let over : most < number_for full.0.event t + 1 = full.2 in
               omega arith;
         }
-    go ended.Nothing e = record { so = λ f. absurd (true≢false (sym f)); not_so = λ f full. let line : ended.Nothing ≡ ended.Line full.0 = sym e ∙ full.1 in clash (cc) }
-    go (ended.Refused g) e = record { so = λ f. absurd (true≢false (sym f)); not_so = λ f full. never_refused r chunk g e }
+    go (Ok None) e = record { so = λ f. absurd (true≢false (sym f)); not_so = λ f full. let line : (Ok None) ≡ Ok (Some full.0) = sym e ∙ full.1 in clash (cc) }
+    go (Err g) e = record { so = λ f. absurd (true≢false (sym f)); not_so = λ f full. never_refused r chunk g e }
 
 pub step_ranked : (t : Tally) (r : Receiver) (chunk : List ℕ) → Ranked (step_rows t r chunk) (step_refusal t r chunk)
 unfolding step_rows step_refusal
@@ -71,9 +70,9 @@ no_number : (r : Receiver) (chunk : List ℕ) → step_told (told (step_from r c
 no_number r chunk = go (step_from r chunk).answer refl
   where
     go : (a : Ended) → (step_from r chunk).answer ≡ a → step_told (told a) ≡ none
-    go (ended.Line line) e = refl
-    go ended.Nothing e = refl
-    go (ended.Refused f) e = absurd (never_refused r chunk f e)
+    go (Ok (Some line)) e = refl
+    go (Ok None) e = refl
+    go (Err f) e = absurd (never_refused r chunk f e)
 
 tells : (r : Receiver) (chunk : List ℕ) (o : Option Fault) → step_told (stepped_by o r chunk).answer ≡ raised fault_number o
 unfolding stepped_by
@@ -91,7 +90,7 @@ step_exactly t r chunk c =
 -- the rows written out, each with its number: the line that the bytes would end, wherever they lie
 pub step_plainly : (t : Tally) (r : Receiver) (chunk : List ℕ) {s : Stepped} {t' : Tally} → CountsWhere t r chunk s t'
     → Numbered
-    (row ((line : Placed) × ((step_from r chunk).answer ≡ ended.Line line) × (4294967295 < number_for line.event t + 1)) 76
+    (row ((line : Placed) × ((step_from r chunk).answer ≡ Ok (Some line)) × (4294967295 < number_for line.event t + 1)) 76
     ∷ row (18446744073709551615 < r.place + length chunk) 60 ∷ [])
     (76 ∷ 60 ∷ []) (step_told s.answer)
 unfolding step_rows IsTallyFull CarriesPast
@@ -133,14 +132,14 @@ full_first t r chunk full = refusal_is t r chunk true (is_past r.place chunk) (t
 
 -- 76, whatever the place
 pub full_undone : (t : Tally) (r : Receiver) (chunk : List ℕ) {s : Stepped} {t' : Tally} → CountsWhere t r chunk s t' → IsTallyFull t r chunk
-    → (s ≡ stepped r 0 (Refused TallyFull)) × (t' ≡ t)
+    → (s ≡ stepped r 0 (Err TallyFull)) × (t' ≡ t)
 unfolding stepped_by tally_by
 full_undone t r chunk c full =
     let first = full_first t r chunk full in
     (c.0 ∙ ap (λ (o : Option Fault). stepped_by o r chunk) first, c.1 ∙ ap (λ (o : Option Fault). tally_by o t r chunk) first)
 
 -- whatever refuses
-pub refusal_keeps : (t : Tally) (r : Receiver) (chunk : List ℕ) (s : Stepped) (t' : Tally) (f : Fault) → CountsWhere t r chunk s t' → s.answer ≡ Refused f
+pub refusal_keeps : (t : Tally) (r : Receiver) (chunk : List ℕ) (s : Stepped) (t' : Tally) (f : Fault) → CountsWhere t r chunk s t' → s.answer ≡ Err f
     → (t' ≡ t) × (s.receiver ≡ r) × (s.taken ≡ 0)
 unfolding stepped_by tally_by
 refusal_keeps t r chunk s t' f c refused = by (step_refusal t r chunk) c.0 c.1
@@ -168,9 +167,9 @@ receivers_own t r chunk {s} {ran = ran} n c steps = go (is_past r.place chunk) r
 
 -- ---- a step without a line changes no tally number and is never 76
 
-pub no_line_no_76 : (t : Tally) (r : Receiver) (chunk : List ℕ) → (step_from r chunk).answer ≡ ended.Nothing → IsTallyFull t r chunk → ⊥
+pub no_line_no_76 : (t : Tally) (r : Receiver) (chunk : List ℕ) → (step_from r chunk).answer ≡ Ok None → IsTallyFull t r chunk → ⊥
 unfolding IsTallyFull
-no_line_no_76 t r chunk e full = let line : ended.Nothing ≡ ended.Line full.0 = sym e ∙ full.1 in clash (cc)
+no_line_no_76 t r chunk e full = let line : (Ok None) ≡ Ok (Some full.0) = sym e ∙ full.1 in clash (cc)
 
 -- ---- each number is the one before, and one more exactly where the step's line is of its kind
 
@@ -194,16 +193,16 @@ unfolding stepped_by tally_by
 step_adds t r chunk {s} {t'} c = by (step_refusal t r chunk) c.0 c.1
   where
     ends : (a : Ended) → Adds t (line_told (told a)) (with_end a t)
-    ends (ended.Line line) = adds_line line t
-    ends ended.Nothing = adds_none t
-    ends (ended.Refused f) = adds_none t
+    ends (Ok (Some line)) = adds_line line t
+    ends (Ok None) = adds_none t
+    ends (Err f) = adds_none t
 
     by : (o : Option Fault) → s ≡ stepped_by o r chunk → t' ≡ tally_by o t r chunk → Adds t (line_told s.answer) t'
     by (some f) p q = rw (p, q) (adds_none t)
     by none p q = rw (p, q) (ends (step_from r chunk).answer)
 
 -- said out: of a step that told a line
-pub line_counted_lem : (t : Tally) (r : Receiver) (chunk : List ℕ) {s : Stepped} {t' : Tally} (line : Placed) → CountsWhere t r chunk s t' → s.answer ≡ Line line
+pub line_counted_lem : (t : Tally) (r : Receiver) (chunk : List ℕ) {s : Stepped} {t' : Tally} (line : Placed) → CountsWhere t r chunk s t' → s.answer ≡ Ok (Some line)
     → (t'.read ≡ t.read + is_ok line.event) × (t'.refused ≡ t.refused + is_refused line.event) × (t'.dropped ≡ t.dropped + is_dropped line.event)
 line_counted_lem t r chunk {s} {t'} line c told_Line = (on is_ok t.read added.0, on is_refused t.refused added.1, on is_dropped t.dropped added.2)
   where
@@ -214,14 +213,14 @@ line_counted_lem t r chunk {s} {t'} line c told_Line = (on is_ok t.read added.0,
     on counts m e = e ∙ ap (λ (k : ℕ). m + k) (one_total counts line)
 
 -- a step that tells no line keeps the tally
-pub silent_keeps : (t : Tally) (r : Receiver) (chunk : List ℕ) {s : Stepped} {t' : Tally} → CountsWhere t r chunk s t' → s.answer ≡ Nothing → t' ≡ t
+pub silent_keeps : (t : Tally) (r : Receiver) (chunk : List ℕ) {s : Stepped} {t' : Tally} → CountsWhere t r chunk s t' → s.answer ≡ Ok None → t' ≡ t
 unfolding stepped_by tally_by
 silent_keeps t r chunk {s} {t'} c silent = by (step_refusal t r chunk) c.0 c.1
   where
-    ends : (a : Ended) → told a ≡ Nothing → with_end a t ≡ t
-    ends (ended.Line line) e = clash (cc)
-    ends ended.Nothing e = refl
-    ends (ended.Refused f) e = refl
+    ends : (a : Ended) → told a ≡ Ok None → with_end a t ≡ t
+    ends (Ok (Some line)) e = clash (cc)
+    ends (Ok None) e = refl
+    ends (Err f) e = refl
 
     by : (o : Option Fault) → s ≡ stepped_by o r chunk → t' ≡ tally_by o t r chunk → t' ≡ t
     by (some f) p q = q

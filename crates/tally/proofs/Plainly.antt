@@ -1,5 +1,6 @@
 -- What the definitions over several steps say, written out.
 -- Assumes nothing.
+use Rattle.std.specs.Prelude.{Ok, Err, Some, None}
 use mathlib.Core.Path.{◌≡◌, refl}
 use mathlib.Core.List.{List, [], ◌∷◌}
 use mathlib.Core.Logic.{◌↔◌}
@@ -8,11 +9,9 @@ use Rattle.lines.specs.declared.Placed.{Placed}
 use Rattle.listing.specs.Events.{total, is_ok, is_refused, is_dropped}
 use Rattle.receiver.specs.Receiver.{largest, outside_at, no_bytes, next, told, step_from, Steps}
 use Rattle.receiver.specs.Chunks.{line_in}
-use Rattle.receiver.specs.declared.Answer.{Answer as Ended}
-use Rattle.receiver.specs.declared.Answer.TheVariants as ended
+use Rattle.receiver.specs.Answers.{Answer as Ended}
 use Rattle.receiver.specs.declared.Receiver.{Receiver}
 use Rattle.receiver.specs.declared.Stepped.{Stepped as Ran}
-use Rattle.tally.specs.declared.Answer.TheVariants.{Nothing, Line, Refused}
 use Rattle.tally.specs.declared.Counted.{Counted}
 use Rattle.tally.specs.declared.Fault.{Fault}
 use Rattle.tally.specs.declared.Stepped.{Stepped}
@@ -32,14 +31,14 @@ pub adds_plainly : (t : Tally) (lines : List Placed) (t' : Tally) → Adds t lin
     ↔ ((t'.read ≡ t.read + total is_ok lines) × (t'.refused ≡ t.refused + total is_refused lines) × (t'.dropped ≡ t.dropped + total is_dropped lines))
 adds_plainly t lines t' = ((λ p. p), (λ p. p))
 
-pub told_plainly : ((line : Placed) → (line_told (Line line) ≡ line ∷ []) × (number_told (Line line) ≡ [])) × ((line_told Nothing ≡ []) × (number_told Nothing ≡ []))
-    × ((f : Fault) → (line_told (Refused f) ≡ []) × (number_told (Refused f) ≡ fault_number f ∷ []))
+pub told_plainly : ((line : Placed) → (line_told (Ok (Some line)) ≡ line ∷ []) × (number_told (Ok (Some line)) ≡ [])) × ((line_told (Ok None) ≡ []) × (number_told (Ok None) ≡ []))
+    × ((f : Fault) → (line_told (Err f) ≡ []) × (number_told (Err f) ≡ fault_number f ∷ []))
 told_plainly = ((λ line. (refl, refl)), (refl, refl), (λ f. (refl, refl)))
 
 same_line : (a : Ended) → line_told (tally.told a) ≡ line_in a
-same_line (ended.Line line) = refl
-same_line ended.Nothing = refl
-same_line (ended.Refused f) = refl
+same_line (Ok (Some line)) = refl
+same_line (Ok None) = refl
+same_line (Err f) = refl
 
 pub own_plainly : (t : Tally) (r : Receiver) (chunk : List ℕ) {s : Stepped} {t' : Tally} {ran : Ran} → (IsTallyFull t r chunk → ⊥)
     → CountsWhere t r chunk s t' → Steps r chunk ran → (s.receiver ≡ ran.receiver) × (s.taken ≡ ran.taken) × (line_told s.answer ≡ line_in ran.answer)

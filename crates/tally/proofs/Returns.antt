@@ -1,5 +1,6 @@
 -- What each return of a step by value asks, over receivers and bytes.
 -- Assumes nothing.
+use Rattle.std.specs.Prelude.{Ok, Err, Some, None}
 use mathlib.Core.Path.{◌≡◌, refl, sym, ap, ◌∙◌}
 use mathlib.Core.Bool.{Bool, true, false, cond}
 use mathlib.Core.List.{List}
@@ -14,13 +15,11 @@ use Rattle.lines.specs.declared.Event.{Event}
 use Rattle.lines.specs.declared.Placed.{Placed}
 use Rattle.receiver.specs.Receiver.{is_past, step_from, step_of, Steps, stepped as ran}
 use Rattle.receiver.specs.Receiver.{step_refusal as place_refusal}
-use Rattle.receiver.specs.declared.Answer.{Answer as Ended}
-use Rattle.receiver.specs.declared.Answer.TheVariants as ended
+use Rattle.receiver.specs.Answers.{Answer as Ended}
 use Rattle.receiver.specs.declared.Fault.{Fault as Unplaced}
 use Rattle.receiver.specs.declared.Fault.TheVariants.{PastLargest}
 use Rattle.receiver.specs.declared.Receiver.{Receiver}
 use Rattle.receiver.specs.declared.Stepped.{Stepped as Ran}
-use Rattle.tally.specs.declared.Answer.TheVariants.{Nothing}
 use Rattle.tally.specs.declared.Counted.{Counted}
 use Rattle.tally.specs.declared.Fault.{Fault}
 use Rattle.tally.specs.declared.Fault.TheVariants.{TallyFull, NotPlaced}
@@ -46,7 +45,7 @@ pub not_past : (r : Receiver) (chunk : List ℕ) → is_past r.place chunk ≡ f
 unfolding step_of place_refusal
 not_past r chunk e = rw e refl
 
-pub is_past_lem : (r : Receiver) (chunk : List ℕ) → is_past r.place chunk ≡ true → step_of r chunk ≡ ran r 0 (ended.Refused PastLargest)
+pub is_past_lem : (r : Receiver) (chunk : List ℕ) → is_past r.place chunk ≡ true → step_of r chunk ≡ ran r 0 (Err PastLargest)
 unfolding step_of place_refusal
 is_past_lem r chunk e = rw e refl
 
@@ -62,14 +61,14 @@ module _ (tally : Tally) (r : Receiver) (chunk : List ℕ) where
 
   -- a step that the receiver does, and one that it refuses
   module _ (s : Ran) (steps : Steps r chunk s) where
-    done_by : (a : Ended) → s.answer ≡ a → ((f : Unplaced) → a ≡ ended.Refused f → ⊥) → (is_past r.place chunk ≡ false) × (s ≡ step_from r chunk)
+    done_by : (a : Ended) → s.answer ≡ a → ((f : Unplaced) → a ≡ Err f → ⊥) → (is_past r.place chunk ≡ false) × (s ≡ step_from r chunk)
     done_by a e n = go (is_past r.place chunk) refl
       where
         go : (t : Bool) → is_past r.place chunk ≡ t → (is_past r.place chunk ≡ false) × (s ≡ step_from r chunk)
         go true p = absurd (n PastLargest (sym e ∙ ap (λ (s : Ran). s.answer) (steps ∙ is_past_lem r chunk p)))
         go false p = (p, steps ∙ not_past r chunk p)
 
-    refused_past : (f : Unplaced) → s.answer ≡ ended.Refused f → (is_past r.place chunk ≡ true) × (f ≡ PastLargest)
+    refused_past : (f : Unplaced) → s.answer ≡ Err f → (is_past r.place chunk ≡ true) × (f ≡ PastLargest)
     refused_past f e = go (is_past r.place chunk) refl
       where
         only : (f : Unplaced) → f ≡ PastLargest
@@ -79,28 +78,28 @@ module _ (tally : Tally) (r : Receiver) (chunk : List ℕ) where
         go true p = (p, only f)
         go false p = absurd (never_refused r chunk f (sym (ap (λ (s : Ran). s.answer) (steps ∙ not_past r chunk p)) ∙ e))
 
-    pub counts_nothing : s.answer ≡ ended.Nothing → (c : Counted) → c ≡ done_with tally s Nothing → Counts tally r chunk c
+    pub counts_nothing : s.answer ≡ Ok None → (c : Counted) → c ≡ done_with tally s (Ok None) → Counts tally r chunk c
     unfolding stepped_by tally_by
     counts_nothing e c is =
-        let d = done_by ended.Nothing e (λ f w. clash (cc)) in
-        let a : (step_from r chunk).answer ≡ ended.Nothing = sym (ap (λ (s : Ran). s.answer) d.1) ∙ e in
+        let d = done_by (Ok None) e (λ f w. clash (cc)) in
+        let a : (step_from r chunk).answer ≡ (Ok None) = sym (ap (λ (s : Ran). s.answer) d.1) ∙ e in
         counts_by c none (refusal_is false false (rw a refl) d.0) (is ∙ rw (d.1, a) refl)
 
-    pub counts_line : (line : Placed) → s.answer ≡ ended.Line line → (c : Counted) → c ≡ line_counted tally r s line → Counts tally r chunk c
+    pub counts_line : (line : Placed) → s.answer ≡ Ok (Some line) → (c : Counted) → c ≡ line_counted tally r s line → Counts tally r chunk c
     unfolding stepped_by tally_by
     counts_line line e c is = go (is_full line.event tally) refl
       where
         d : (is_past r.place chunk ≡ false) × (s ≡ step_from r chunk)
-        d = done_by (ended.Line line) e (λ f w. clash (cc))
+        d = done_by (Ok (Some line)) e (λ f w. clash (cc))
 
-        a : (step_from r chunk).answer ≡ ended.Line line
+        a : (step_from r chunk).answer ≡ Ok (Some line)
         a = sym (ap (λ (s : Ran). s.answer) d.1) ∙ e
 
         go : (t : Bool) → is_full line.event tally ≡ t → Counts tally r chunk c
         go true t = counts_by c (some TallyFull) (refusal_is true false (rw a t) d.0) (is ∙ rw t refl)
         go false t = counts_by c none (refusal_is false false (rw a t) d.0) (is ∙ rw (t, d.1, a) refl)
 
-    pub counts_refused : (f : Unplaced) → s.answer ≡ ended.Refused f → length chunk ≤ 18446744073709551615 → (ahead : Ran) → Steps (placed_at r 0) chunk ahead
+    pub counts_refused : (f : Unplaced) → s.answer ≡ Err f → length chunk ≤ 18446744073709551615 → (ahead : Ran) → Steps (placed_at r 0) chunk ahead
         → (c : Counted) → c ≡ refused_by tally r ahead.answer f → Counts tally r chunk c
     unfolding stepped_by tally_by
     counts_refused f e short ahead steps₀ c is = go (full_at (step_from r chunk).answer tally) refl

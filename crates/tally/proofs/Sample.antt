@@ -1,5 +1,6 @@
 -- The tally, computed from the definitions: a capture with a frame of each kind, a number that is full, and a place that is the largest.
 -- Assumes nothing.
+use Rattle.std.specs.Prelude.{Err}
 use mathlib.Core.Path.{◌≡◌, refl}
 use mathlib.Core.List.{List, [], ◌∷◌}
 use Prim.Native.Nat.{ℕ}
@@ -16,7 +17,6 @@ use Rattle.listing.specs.Events.{placed, frame_event}
 use Rattle.receiver.specs.Receiver.{largest, no_bytes, outside_at, opened_at, next, closing, told, step_from}
 use Rattle.receiver.specs.Chunks.{run, joined, IsReading}
 use Rattle.receiver.specs.declared.Fault.TheVariants.{PastLargest}
-use Rattle.tally.specs.declared.Answer.TheVariants as answer
 use Rattle.tally.specs.declared.Fault.TheVariants.{TallyFull, NotPlaced}
 use Rattle.tally.specs.declared.Tally.{Tally}
 use Rattle.tally.specs.Tally.{clear_tally, step_refusal, stepped, stepped_by, tally_by}
@@ -61,17 +61,17 @@ unfolding remainder_of with_bytes with_byte times_x times_xs message_of between 
 full_there = refl
 
 -- at the largest place: 76 ahead of 60, and 60 where the number is not full or no line ends
-pub both_at_once : step_with (numbers 0 4294967295 0) (outside_at largest) (13 ∷ 10 ∷ []) ≡ stepped (outside_at largest) 0 (answer.Refused TallyFull)
+pub both_at_once : step_with (numbers 0 4294967295 0) (outside_at largest) (13 ∷ 10 ∷ []) ≡ stepped (outside_at largest) 0 (Err TallyFull)
 unfolding message_of between restored read_frame read_refusal message_refusal fields_of has_stray_end has_bad_substitution bad_place first_place passed_from
     over over_at frame_event no_bytes next closing told step_from step_refusal stepped_by
 both_at_once = refl
 
-pub only_60 : step_with (numbers 4294967295 4294967294 4294967295) (outside_at largest) (13 ∷ 10 ∷ []) ≡ stepped (outside_at largest) 0 (answer.Refused (NotPlaced PastLargest))
+pub only_60 : step_with (numbers 4294967295 4294967294 4294967295) (outside_at largest) (13 ∷ 10 ∷ []) ≡ stepped (outside_at largest) 0 (Err (NotPlaced PastLargest))
 unfolding message_of between restored read_frame read_refusal message_refusal fields_of has_stray_end has_bad_substitution bad_place first_place passed_from
     over over_at frame_event no_bytes next closing told step_from step_refusal stepped_by
 only_60 = refl
 
-pub no_line_60 : step_with (numbers 4294967295 4294967295 4294967295) (outside_at largest) (5 ∷ []) ≡ stepped (outside_at largest) 0 (answer.Refused (NotPlaced PastLargest))
+pub no_line_60 : step_with (numbers 4294967295 4294967295 4294967295) (outside_at largest) (5 ∷ []) ≡ stepped (outside_at largest) 0 (Err (NotPlaced PastLargest))
 unfolding no_bytes next told step_from step_refusal stepped_by
 no_line_60 = refl
 

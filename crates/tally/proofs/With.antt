@@ -1,5 +1,6 @@
 -- "and #101's sameness wants no 76 either": chunks that are taken by steps with one tally.
 -- Assumes nothing.
+use Rattle.std.specs.Prelude.{Ok, Err, Some, None}
 use mathlib.Core.Path.{◌≡◌, refl, sym, ap, ◌∙◌}
 use mathlib.Core.Bool.{Bool, true, false, cond, ◌||◌, true≢false}
 use mathlib.Core.List.{List, [], ◌∷◌, ◌++◌}
@@ -15,8 +16,7 @@ use Rattle.listing.specs.Events.{placed, events_from, total, is_ok, is_refused, 
 use Rattle.listing.proofs.Events.{total-append}
 use Rattle.receiver.specs.Receiver.{largest, outside_at, is_inside, step_of}
 use Rattle.receiver.specs.Chunks.{line_in, Run, after, steps, feed, joined, open_line, IsReading}
-use Rattle.receiver.specs.declared.Answer.{Answer as Ended}
-use Rattle.receiver.specs.declared.Answer.TheVariants as ended
+use Rattle.receiver.specs.Answers.{Answer as Ended}
 use Rattle.receiver.specs.declared.Receiver.{Receiver}
 use Rattle.receiver.proofs.Chunks.{same_reading, same_cuts}
 use Rattle.tally.specs.declared.Stepped.{Stepped}
@@ -46,9 +46,9 @@ apart n a b e = neither (stands n a) (stands n b) (sym (stands_append n a b) ∙
 -- ---- a step that is not 76 is the receiver's own
 
 line_told_lem : (a : Ended) → line_told (told a) ≡ line_in a
-line_told_lem (ended.Line line) = refl
-line_told_lem ended.Nothing = refl
-line_told_lem (ended.Refused f) = refl
+line_told_lem (Ok (Some line)) = refl
+line_told_lem (Ok None) = refl
+line_told_lem (Err f) = refl
 
 not_76 : (t : Tally) (r : Receiver) (chunk : List ℕ) → stands 76 (number_told (step_with t r chunk).answer) ≡ false → step_with t r chunk ≡ passed_on (step_of r chunk)
 not_76 t r chunk e = receivers_own t r chunk {t' = tally_with t r chunk} not_full (refl, refl) refl

@@ -1,14 +1,13 @@
 -- Steps one after the other that are lent one tally: what its numbers come to, and what chunks that are taken so come to.
 -- 02, #113: "each number equal to the count of such lines since it was cleared", "and #101's sameness wants no 76 either".
 -- Assumes nothing.
-use Rattle.std.specs.Prelude.{◌≡◌, List, [], ◌∷◌, ◌++◌, ℕ, zero, suc, ◌+◌, length, drop}
+use Rattle.std.specs.Prelude.{◌≡◌, List, [], ◌∷◌, ◌++◌, ℕ, zero, suc, ◌+◌, length, drop, Ok, Err, Some, None}
 use Rattle.lines.specs.declared.Placed.{Placed}
 use Rattle.listing.specs.Events.{total, is_ok, is_refused, is_dropped}
 use Rattle.receiver.specs.Chunks.{Run, run, after}
 use Rattle.receiver.specs.declared.Receiver.{Receiver}
 use Rattle.receiver.specs.declared.Stepped.{Stepped as Ran}
-use Rattle.tally.specs.declared.Answer.{Answer}
-use Rattle.tally.specs.declared.Answer.TheVariants.{Nothing, Line, Refused}
+use Rattle.tally.specs.Answers.{Answer}
 use Rattle.tally.specs.declared.Stepped.{Stepped}
 use Rattle.tally.specs.declared.Tally.{Tally}
 use Rattle.tally.specs.Tally.{Clears, CountsWhere, fault_number, step_refusal, stepped, stepped_by, tally_by, told}
@@ -19,15 +18,15 @@ passed_on s = stepped s.receiver s.taken (told s.answer)
 
 -- the line that an answer tells, where it tells one
 abbrev pub line_told : Answer → List Placed
-line_told (Line line) = line ∷ []
-line_told Nothing = []
-line_told (Refused f) = []
+line_told (Ok (Some line)) = line ∷ []
+line_told (Ok None) = []
+line_told (Err f) = []
 
 -- the number that it tells, where it is a refusal
 abbrev pub number_told : Answer → List ℕ
-number_told (Refused f) = fault_number f ∷ []
-number_told (Line line) = []
-number_told Nothing = []
+number_told (Err f) = fault_number f ∷ []
+number_told (Ok (Some line)) = []
+number_told (Ok None) = []
 
 -- ---- the numbers and the lines
 

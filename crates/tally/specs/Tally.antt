@@ -1,7 +1,7 @@
 -- The line tally. 02, #113: "Also keep a line tally: frames read, refused and dropped, one record lent to each listing step and changed where it
 -- lies, each number equal to the count of such lines since it was cleared."
 -- Assumes nothing.
-use Rattle.std.specs.Prelude.{◌≡◌, Bool, false, cond, List, [], ◌∷◌, ℕ, ◌+◌, ◌<◌, ltb}
+use Rattle.std.specs.Prelude.{◌≡◌, Bool, false, cond, List, [], ◌∷◌, ℕ, ◌+◌, ◌<◌, ltb, Ok, Err, Some, None}
 use Rattle.std.proofs.Math.Option.{Option, some, none}
 use Rattle.rows.specs.Rows.{Row, row, Test, test, first_row_of}
 use Rattle.lines.specs.declared.Event.{Event}
@@ -9,14 +9,12 @@ use Rattle.lines.specs.declared.Event.TheVariants as event
 use Rattle.lines.specs.declared.Placed.{Placed}
 use Rattle.receiver.specs.Receiver.{CarriesPast, is_past, step_from}
 use Rattle.receiver.specs.Receiver.{fault_number as place_number}
-use Rattle.receiver.specs.declared.Answer.{Answer as Ended}
-use Rattle.receiver.specs.declared.Answer.TheVariants as ended
+use Rattle.receiver.specs.Answers.{Answer as Ended}
 use Rattle.receiver.specs.declared.Fault.{Fault as Unplaced}
 use Rattle.receiver.specs.declared.Fault.TheVariants.{PastLargest}
 use Rattle.receiver.specs.declared.Receiver.{Receiver}
 use Rattle.receiver.specs.declared.Stepped.{Stepped as Ran}
-use Rattle.tally.specs.declared.Answer.{Answer}
-use Rattle.tally.specs.declared.Answer.TheVariants.{Nothing, Line, Refused}
+use Rattle.tally.specs.Answers.{Answer}
 use Rattle.tally.specs.declared.Counted.{Counted}
 use Rattle.tally.specs.declared.Fault.{Fault}
 use Rattle.tally.specs.declared.Fault.TheVariants.{TallyFull, NotPlaced}
@@ -48,7 +46,7 @@ most = 4294967295
 
 -- 76: the line of this very step would, whatever its place
 unfoldable pub IsTallyFull : Tally → Receiver → List ℕ → Type 0
-IsTallyFull tally r chunk = (line : Placed) × ((step_from r chunk).answer ≡ ended.Line line) × (most < number_for line.event tally + 1)
+IsTallyFull tally r chunk = (line : Placed) × ((step_from r chunk).answer ≡ Ok (Some line)) × (most < number_for line.event tally + 1)
 
 unfoldable pub step_rows : Tally → Receiver → List ℕ → List (Row Fault)
 step_rows tally r chunk = row (IsTallyFull tally r chunk) TallyFull ∷ row (CarriesPast r chunk) (NotPlaced PastLargest) ∷ []
@@ -58,9 +56,9 @@ is_full e tally = ltb most (number_for e tally + 1)
 
 -- of what a step ends with
 abbrev pub full_at : Ended → Tally → Bool
-full_at (ended.Line line) tally = is_full line.event tally
-full_at ended.Nothing tally = false
-full_at (ended.Refused f) tally = false
+full_at (Ok (Some line)) tally = is_full line.event tally
+full_at (Ok None) tally = false
+full_at (Err f) tally = false
 
 abbrev pub step_tests : Tally → Receiver → List ℕ → List (Test Fault)
 step_tests tally r chunk = test (full_at (step_from r chunk).answer tally) TallyFull ∷ test (is_past r.place chunk) (NotPlaced PastLargest) ∷ []
@@ -76,22 +74,22 @@ fault_number (NotPlaced f) = place_number f
 -- ---- the answer and the tally, each from the refusal: "only 60 and 76 refuse a step, and leave the tally as it was", "the step isn't done"
 
 abbrev pub told : Ended → Answer
-told (ended.Line line) = Line line
-told ended.Nothing = Nothing
-told (ended.Refused f) = Refused (NotPlaced f)
+told (Ok (Some line)) = Ok (Some line)
+told (Ok None) = Ok None
+told (Err f) = Err (NotPlaced f)
 
 abbrev pub stepped : Receiver → ℕ → Answer → Stepped
 stepped r taken answer = record { receiver = r; taken = taken; answer = answer }
 
 unfoldable pub stepped_by : Option Fault → Receiver → List ℕ → Stepped
-stepped_by (some f) r chunk = stepped r 0 (Refused f)
+stepped_by (some f) r chunk = stepped r 0 (Err f)
 stepped_by none r chunk = stepped (step_from r chunk).receiver (step_from r chunk).taken (told (step_from r chunk).answer)
 
 -- the tally with what a step ends with
 abbrev pub with_end : Ended → Tally → Tally
-with_end (ended.Line line) tally = with_line line.event tally
-with_end ended.Nothing tally = tally
-with_end (ended.Refused f) tally = tally
+with_end (Ok (Some line)) tally = with_line line.event tally
+with_end (Ok None) tally = tally
+with_end (Err f) tally = tally
 
 unfoldable pub tally_by : Option Fault → Tally → Receiver → List ℕ → Tally
 tally_by (some f) tally r chunk = tally
@@ -99,9 +97,9 @@ tally_by none tally r chunk = with_end (step_from r chunk).answer tally
 
 -- the number that an answer tells, or none
 abbrev pub step_told : Answer → Option ℕ
-step_told (Refused f) = some (fault_number f)
-step_told (Line line) = none
-step_told Nothing = none
+step_told (Err f) = some (fault_number f)
+step_told (Ok (Some line)) = none
+step_told (Ok None) = none
 
 -- ---- the contracts
 
@@ -135,12 +133,12 @@ done_with tally s answer = counted tally (stepped s.receiver s.taken answer)
 
 -- "the step isn't done"
 abbrev pub not_done : Tally → Receiver → Fault → Counted
-not_done tally r f = counted tally (stepped r 0 (Refused f))
+not_done tally r f = counted tally (stepped r 0 (Err f))
 
 -- the line that a step of the receiver ended is counted, unless its number is full
 abbrev pub line_counted : Tally → Receiver → Ran → Placed → Counted
 line_counted tally r s line =
-    cond (is_full line.event tally) (not_done tally r TallyFull) (done_with (with_line line.event tally) s (Line line))
+    cond (is_full line.event tally) (not_done tally r TallyFull) (done_with (with_line line.event tally) s (Ok (Some line)))
 
 -- a step that the receiver refuses, by what it would end with
 abbrev pub refused_by : Tally → Receiver → Ended → Unplaced → Counted

@@ -14,9 +14,9 @@ pub fn count_step(tally: Tally, receiver: Receiver, chunk: &[u8]) -> Counted
     let stepped = receiver::step(receiver, chunk);
     let answer = stepped.answer;
     match answer {
-        receiver::Answer::Nothing => done(tally, stepped, Answer::Nothing),
-        receiver::Answer::Line(line) => count_line(tally, receiver, stepped, line),
-        receiver::Answer::Refused(fault) => {
+        Ok(None) => done(tally, stepped, Ok(None)),
+        Ok(Some(line)) => count_line(tally, receiver, stepped, line),
+        Err(fault) => {
             // the line that the step would end, wherever its places lie
             let ahead = receiver::step(placed_at(receiver, 0), chunk);
             let ended = ahead.answer;
@@ -33,7 +33,7 @@ fn count_line(tally: Tally, receiver: Receiver, stepped: receiver::Stepped, line
     if is_full(event, tally) {
         return not_done(tally, receiver, Fault::TallyFull);
     }
-    done(with_line(event, tally), stepped, Answer::Line(line))
+    done(with_line(event, tally), stepped, Ok(Some(line)))
 }
 
 // A step that the receiver refuses: 76 goes ahead, by what the step would end with.
@@ -75,7 +75,7 @@ fn not_done(tally: Tally, receiver: Receiver, fault: Fault) -> Counted
         stepped: Stepped {
             receiver,
             taken: 0,
-            answer: Answer::Refused(fault),
+            answer: Err(fault),
         },
     }
 }
@@ -98,12 +98,12 @@ fn full_at(ended: receiver::Answer, tally: Tally) -> bool
     ensures { result ≡ full_at ended tally }
 {
     match ended {
-        receiver::Answer::Line(line) => {
+        Ok(Some(line)) => {
             let event = line.event;
             is_full(event, tally)
         }
-        receiver::Answer::Nothing => false,
-        receiver::Answer::Refused(_) => false,
+        Ok(None) => false,
+        Err(_) => false,
     }
 }
 

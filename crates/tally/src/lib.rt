@@ -33,16 +33,9 @@ pub enum Fault {
     NotPlaced(receiver::Fault),
 }
 
-// What a step answers.
-#[derive(Clone, Copy)]
-pub enum Answer {
-    // no line ends in the chunk
-    Nothing,
-    // the last byte taken ends this line, and the tally counted it
-    Line(Placed),
-    // nothing was done
-    Refused(Fault),
-}
+// What a step answers: the line that the last byte taken ends, and the tally counted it, or `None`
+// where no line ends in the chunk. Of a step that is refused nothing was done.
+pub type Answer = Result<Option<Placed>, Fault>;
 
 // A step's outcome: the receiver afterwards, and how many bytes of the chunk it took.
 #[derive(Clone, Copy)]

@@ -1,5 +1,6 @@
 -- 02, #105: number 3 comes with the place of the first faulty 94, and no other number comes with one.
 -- Assumes nothing.
+use Rattle.std.specs.Prelude.{Ok, Err}
 use mathlib.Core.Path.{◌≡◌, refl, sym, ap, subst, ◌∙◌}
 use mathlib.Core.Bool.{Bool, true, false, not, cond, true≢false}
 use mathlib.Core.List.{List}
@@ -24,9 +25,7 @@ use Rattle.telegram.specs.Read.{not_framed, has_stray_end, read_rows, fault_numb
 use Rattle.telegram.specs.Read.{Reads, Judges, Places}
 use Rattle.telegram.specs.declared.Fault.{Fault}
 use Rattle.telegram.specs.declared.Fault.TheVariants.{NotFramed, StrayEnd, BadSubstitution, ShortMessage, LongMessage, NoRoom, CheckFault, ZeroAddress, UnknownType}
-use Rattle.telegram.specs.declared.Judged.TheVariants.{Sound, Unsound}
-use Rattle.telegram.specs.declared.Reading.{Reading}
-use Rattle.telegram.specs.declared.Reading.TheVariants.{Telegram, Refused}
+use Rattle.telegram.specs.Answers.{Reading}
 
 -- ---- one place
 
@@ -118,12 +117,12 @@ module _ (frame : List ℕ) {not_framed_lem stray : Bool} {bytes : List ℕ} (to
       past_2 frame told right inside found no_stray
       ∙ rw (inside, bad_by_place frame ((decides_ends frame).not_so (sym told ∙ right)), ← is)
 
-  pub judged_bad : place < length frame → Unsound (BadSubstitution place) ≡ judged (first_row_of (frame_tests frame))
+  pub judged_bad : place < length frame → Err (BadSubstitution place) ≡ judged (first_row_of (frame_tests frame))
   judged_bad under =
       let told_bad : first_row_of (frame_tests frame) ≡ some (BadSubstitution place) = by_place ∙ rw (lt-ltb place (length frame) under) in
       sym (ap judged told_bad)
 
-  pub judged_good : length frame ≤ place → Sound ≡ judged (first_row_of (frame_tests frame))
+  pub judged_good : length frame ≤ place → Ok tt ≡ judged (first_row_of (frame_tests frame))
   judged_good past =
       let told_none : first_row_of (frame_tests frame) ≡ none = by_place ∙ rw (le-ltb place (length frame) past) in
       sym (ap judged told_none)
@@ -153,11 +152,11 @@ place_told frame room r judges told = go (read_refusal frame room) refl
 
     go : (o : Option Fault) → read_refusal frame room ≡ o → FirstFaulty frame (read_place r)
     go none e =
-        let is : r ≡ Telegram (fields_in frame) = judges ∙ rw e in
+        let is : r ≡ Ok (fields_in frame) = judges ∙ rw e in
         let both : ◌≡◌ {A = Option ℕ} none (some 3) = sym (ap read_told is) ∙ told in
         clash (cc)
     go (some f) e =
-        let is : r ≡ Refused f = judges ∙ rw e in
+        let is : r ≡ Err f = judges ∙ rw e in
         let number : fault_number f ≡ 3 = some_is (sym (ap read_told is) ∙ told) in
         let t = three frame room f ((refused_exactly (read_rows frame room) (read_refusal frame room) (read_ranked frame room) f).0 e) number in
         subst (FirstFaulty frame) (sym (ap read_place is ∙ ap fault_place t.2)) (place_first frame t.0 t.1)
@@ -165,7 +164,7 @@ place_told frame room r judges told = go (read_refusal frame room) refl
 -- the same of a refusal that a reading gave
 pub refused_place : (frame : List ℕ) (room : ℕ) (f : Fault) → read_refusal frame room ≡ some f → fault_number f ≡ 3 → FirstFaulty frame (fault_place f)
 unfolding read_frame
-refused_place frame room f e number = place_told frame room (Refused f) (rw e) (ap some number)
+refused_place frame room f e number = place_told frame room (Err f) (rw e) (ap some number)
 
 -- and there is only one such place, so this is it
 pub first_faulty_once : (frame : List ℕ) (p q : ℕ) → FirstFaulty frame p → FirstFaulty frame q → p ≡ q
@@ -179,19 +178,19 @@ first_faulty_once frame p q a b = go (ltb p q) refl (ltb q p) refl
 
 -- no other answer has a place
 pub no_other_place : (r : Reading) → read_told r ≢ some 3 → read_place r ≡ 0
-no_other_place (Telegram t) other = refl
-no_other_place (Refused NotFramed) other = refl
-no_other_place (Refused StrayEnd) other = refl
-no_other_place (Refused (BadSubstitution place)) other = absurd (other refl)
-no_other_place (Refused ShortMessage) other = refl
-no_other_place (Refused LongMessage) other = refl
-no_other_place (Refused NoRoom) other = refl
-no_other_place (Refused CheckFault) other = refl
-no_other_place (Refused ZeroAddress) other = refl
-no_other_place (Refused UnknownType) other = refl
+no_other_place (Ok t) other = refl
+no_other_place (Err NotFramed) other = refl
+no_other_place (Err StrayEnd) other = refl
+no_other_place (Err (BadSubstitution place)) other = absurd (other refl)
+no_other_place (Err ShortMessage) other = refl
+no_other_place (Err LongMessage) other = refl
+no_other_place (Err NoRoom) other = refl
+no_other_place (Err CheckFault) other = refl
+no_other_place (Err ZeroAddress) other = refl
+no_other_place (Err UnknownType) other = refl
 
 pub fault_no_place : (f : Fault) → fault_number f ≢ 3 → fault_place f ≡ 0
-fault_no_place f other = no_other_place (Refused f) (λ e. other (number_is e))
+fault_no_place f other = no_other_place (Err f) (λ e. other (number_is e))
   where
     number_is : {m n : ℕ} → ◌≡◌ {A = Option ℕ} (some m) (some n) → m ≡ n
     number_is e = cc

@@ -1,5 +1,6 @@
 -- What the groups of tests tell, and how the reader's answer is put together from them.
 -- Assumes nothing.
+use Rattle.std.specs.Prelude.{Ok, Err}
 use mathlib.Core.Path.{◌≡◌, refl, sym, ap, ◌∙◌}
 use mathlib.Core.Bool.{Bool, true, false, cond, not, ◌||◌, true≢false}
 use mathlib.Core.List.{List}
@@ -20,10 +21,8 @@ use Rattle.remainder.specs.Remainder.{remainder_of}
 use Rattle.frame.specs.Frame.{between, restored, message_of}
 use Rattle.telegram.specs.declared.Fault.{Fault}
 use Rattle.telegram.specs.declared.Fault.TheVariants.{NotFramed, BadSubstitution, ShortMessage, LongMessage, NoRoom, CheckFault, ZeroAddress, UnknownType}
-use Rattle.telegram.specs.declared.Judged.TheVariants.{Sound, Unsound}
 use Rattle.telegram.specs.declared.Fields.{Fields}
-use Rattle.telegram.specs.declared.Reading.{Reading}
-use Rattle.telegram.specs.declared.Reading.TheVariants.{Telegram, Refused}
+use Rattle.telegram.specs.Answers.{Reading}
 use Rattle.telegram.specs.Read.{byte, not_framed, has_stray_end, has_bad_substitution, bad_place, frame_tests, length_tests, message_tests, judged}
 use Rattle.telegram.specs.Read.{read_refusal, fields_of, read_answer, read_frame, message_refusal, data_of, fields_in}
 -- both are of the rows, and whoever judges telegrams wants them too
@@ -31,11 +30,11 @@ pub use Rattle.rows.proofs.Laws.{first_false, never_both}
 
 -- ---- one group
 
-pub judged_sound : (o : Option Fault) → Sound ≡ judged o → o ≡ none
+pub judged_sound : (o : Option Fault) → Ok tt ≡ judged o → o ≡ none
 judged_sound none e = refl
 judged_sound (some f) e = cc
 
-pub judged_unsound : (o : Option Fault) (f : Fault) → Unsound f ≡ judged o → o ≡ some f
+pub judged_unsound : (o : Option Fault) (f : Fault) → Err f ≡ judged o → o ≡ some f
 judged_unsound none f e = cc
 judged_unsound (some g) f e = cc
 
@@ -89,7 +88,7 @@ pub refused_by_frame : (frame : List ℕ) (room : ℕ) (f : Fault) → first_row
 unfolding read_refusal
 refused_by_frame frame room f e = rw e
 
-pub refused_reading : (frame : List ℕ) (room : ℕ) (f : Fault) → read_refusal frame room ≡ some f → Refused f ≡ read_frame frame room
+pub refused_reading : (frame : List ℕ) (room : ℕ) (f : Fault) → read_refusal frame room ≡ some f → Err f ≡ read_frame frame room
 unfolding read_frame
 refused_reading frame room f e = rw e
 
@@ -102,14 +101,14 @@ pub sound_message : (frame bytes : List ℕ) → bytes ≡ between frame → res
 unfolding message_of
 sound_message frame bytes b = ap (restored false) b
 
-pub refused_by_length : (message : List ℕ) (room n : ℕ) (f : Fault) → n ≡ length message → Unsound f ≡ judged (first_row_of (length_tests n room))
-    → Refused f ≡ read_answer (message_refusal message room) (fields_of message)
+pub refused_by_length : (message : List ℕ) (room n : ℕ) (f : Fault) → n ≡ length message → Err f ≡ judged (first_row_of (length_tests n room))
+    → Err f ≡ read_answer (message_refusal message room) (fields_of message)
 unfolding message_refusal
 refused_by_length message room n f e u =
     let g : first_row_of (length_tests (length message) room) ≡ some f = rw e at (judged_unsound (first_row_of (length_tests n room)) f u) in
     rw g
 
-pub sound_length : (message part : List ℕ) (room n : ℕ) (r : Reading) → n ≡ length message → part ≡ message → Sound ≡ judged (first_row_of (length_tests n room))
+pub sound_length : (message part : List ℕ) (room n : ℕ) (r : Reading) → n ≡ length message → part ≡ message → Ok tt ≡ judged (first_row_of (length_tests n room))
     → r ≡ read_answer (first_row_of (message_tests part)) (fields_of part) → r ≡ read_answer (message_refusal message room) (fields_of message)
 unfolding message_refusal
 sound_length message part room n r e p u g =
@@ -118,19 +117,19 @@ sound_length message part room n r e p u g =
 
 -- ---- and back: what the answer tells
 
-pub answer_refused : (o : Option Fault) (t : Fields) (f : Fault) → read_answer o t ≡ Refused f → o ≡ some f
+pub answer_refused : (o : Option Fault) (t : Fields) (f : Fault) → read_answer o t ≡ Err f → o ≡ some f
 answer_refused none t f e = cc
 answer_refused (some g) t f e = cc
 
-pub answer_telegram : (o : Option Fault) (t u : Fields) → read_answer o t ≡ Telegram u → (o ≡ none) × (u ≡ t)
+pub answer_telegram : (o : Option Fault) (t u : Fields) → read_answer o t ≡ Ok u → (o ≡ none) × (u ≡ t)
 answer_telegram none t u e = (refl, cc)
 answer_telegram (some g) t u e = absurd (let z : ◌≡◌ {A = ℕ} 0 1 = cc in omega arith)
 
-pub reading_refused : (frame : List ℕ) (room : ℕ) (f : Fault) → read_frame frame room ≡ Refused f → read_refusal frame room ≡ some f
+pub reading_refused : (frame : List ℕ) (room : ℕ) (f : Fault) → read_frame frame room ≡ Err f → read_refusal frame room ≡ some f
 unfolding read_frame
 reading_refused frame room f e = answer_refused (read_refusal frame room) (fields_in frame) f e
 
-pub reading_telegram : (frame : List ℕ) (room : ℕ) (t : Fields) → read_frame frame room ≡ Telegram t
+pub reading_telegram : (frame : List ℕ) (room : ℕ) (t : Fields) → read_frame frame room ≡ Ok t
     → (read_refusal frame room ≡ none) × (t ≡ fields_in frame)
 unfolding read_frame
 reading_telegram frame room t e = answer_telegram (read_refusal frame room) (fields_in frame) t e
@@ -148,7 +147,7 @@ pub accepted_sized : (frame : List ℕ) (room : ℕ) → read_refusal frame room
     → (6 ≤ length (message_of frame)) × (length (message_of frame) ≤ 246) × (length (message_of frame) - 6 ≤ room)
 accepted_sized frame room e = sound_sized (length (message_of frame)) room (accepted_groups frame room e).1
 
-pub telegram_facts : (frame : List ℕ) (room : ℕ) (t : Fields) → read_frame frame room ≡ Telegram t
+pub telegram_facts : (frame : List ℕ) (room : ℕ) (t : Fields) → read_frame frame room ≡ Ok t
     → (read_refusal frame room ≡ none) × (t.size ≡ length (message_of frame) - 6) × (6 ≤ length (message_of frame)) × (length (message_of frame) ≤ 246)
 unfolding fields_of
 telegram_facts frame room t e =

@@ -1,6 +1,7 @@
 -- What is promised of telegrams, each law under the sentence that it keeps: M is the mission's, 01 the specification's.
 -- Rows 1 to 9 are in Ranking.antt: `read_ranked` and `write_ranked`.
 -- Assumes nothing.
+use Rattle.std.specs.Prelude.{Ok, Err}
 use mathlib.Core.Path.{◌≡◌, refl, ap, ◌∙◌, sym, ap₂}
 use mathlib.Core.List.{List, [], ◌∷◌, ◌++◌, append_assoc}
 use mathlib.Core.Logic.{◌≢◌, inl, inr}
@@ -29,10 +30,8 @@ use Rattle.telegram.specs.Read.{message_refusal, fields_of, data_of, read_refusa
 use Rattle.telegram.specs.Read.{HasStrayEnd, not_framed, has_stray_end, Judges, Numbers, Tells, fields_in, data_in, fault_number}
 use Rattle.telegram.proofs.Judge.{sized_passes, message_passes, first_false, reading_telegram, accepted_groups, refused_reading, accepted_sized, message_wrong, accepted_message}
 use Rattle.telegram.proofs.Sound.{message_of_framed, framed_sound, sound_framed}
-use Rattle.telegram.specs.declared.Reading.{Reading}
-use Rattle.telegram.specs.declared.Reading.TheVariants.{Telegram, Refused}
-use Rattle.telegram.specs.declared.Writing.{Writing}
-use Rattle.telegram.specs.declared.Writing.TheVariants.{Written}
+use Rattle.telegram.specs.Answers.{Reading}
+use Rattle.telegram.specs.Answers.{Writing}
 use Rattle.telegram.proofs.Ranking.{write_ranked, decides_ends, decides_stray}
 
 -- ---- M 2: "Every message written reads back the same, given room for its data."
@@ -42,11 +41,11 @@ pub read_of_framed : (m : List ℕ) (room : ℕ) → read_refusal (framed m) roo
 unfolding read_refusal
 read_of_framed m room = rw (framed_sound m, message_of_framed m)
 
-answer_written : (o : Option Fault) (n k : ℕ) → Written k ≡ write_answer o n → (o ≡ none) × (k ≡ n)
+answer_written : (o : Option Fault) (n k : ℕ) → Ok k ≡ write_answer o n → (o ≡ none) × (k ≡ n)
 answer_written none n k e = (refl, cc)
 answer_written (some f) n k e = absurd (let z : ◌≡◌ {A = ℕ} 0 1 = cc in omega arith)
 
-read_accepted : (frame : List ℕ) (room : ℕ) → read_refusal frame room ≡ none → read_frame frame room ≡ Telegram (fields_in frame)
+read_accepted : (frame : List ℕ) (room : ℕ) → read_refusal frame room ≡ none → read_frame frame room ≡ Ok (fields_in frame)
 unfolding read_frame
 read_accepted frame room e = rw e
 
@@ -77,7 +76,7 @@ module _ (d s t r : ℕ) (bytes : List ℕ) where
       (message_passes (message_for d s t r bytes) (sealed_right (unsealed d s t r bytes)) hd hs ht)
 
   -- what is written has no address 0, a type up to 9 and up to 240 data bytes, and stands in the room's first bytes
-  pub written_fields : (room : List ℕ) (n : ℕ) (room' : List ℕ) → Writes d s t r bytes room (Written n) room'
+  pub written_fields : (room : List ℕ) (n : ℕ) (room' : List ℕ) → Writes d s t r bytes room (Ok n) room'
       → (d ≢ 0) × (s ≢ 0) × (t ≤ 9) × (length bytes ≤ 240) × (n ≡ length (telegram_for d s t r bytes)) × (take n room' ≡ telegram_for d s t r bytes)
   unfolding write_rows IsTooMuch IsZeroAddress IsUnknownType IsOverRoom
   written_fields room n room' w =
@@ -90,15 +89,15 @@ module _ (d s t r : ℕ) (bytes : List ℕ) where
   -- and whatever has these is written, given room for the telegram
   pub fields_written : (room : List ℕ) (w : Writing) (room' : List ℕ) → d ≢ 0 → s ≢ 0 → t ≤ 9 → length bytes ≤ 240
       → length (telegram_for d s t r bytes) ≤ length room → Writes d s t r bytes room w room'
-      → (w ≡ Written (length (telegram_for d s t r bytes))) × (room' ≡ over (telegram_for d s t r bytes) room)
+      → (w ≡ Ok (length (telegram_for d s t r bytes))) × (room' ≡ over (telegram_for d s t r bytes) room)
   fields_written room w room' hd hs ht long fits writes =
       let clear = write_passes d s t r bytes (length room) long hd hs ht fits in
       (writes.0 ∙ rw clear refl, writes.1 ∙ rw clear refl)
 
   -- of the contracts: whatever telegram was written, read with room for the data it gives the message back
-  pub reads_back : (room : List ℕ) (n : ℕ) (room' : List ℕ) → Writes d s t r bytes room (Written n) room'
+  pub reads_back : (room : List ℕ) (n : ℕ) (room' : List ℕ) → Writes d s t r bytes room (Ok n) room'
       → (buffer : List ℕ) (a : Reading) (buffer' : List ℕ) → length bytes ≤ length buffer → Reads (take n room') buffer a buffer'
-      → (a ≡ Telegram (fields_for d s t r bytes)) × (buffer' ≡ over bytes buffer)
+      → (a ≡ Ok (fields_for d s t r bytes)) × (buffer' ≡ over bytes buffer)
   reads_back room n room' w buffer a buffer' h reads =
       let told = written_fields room n room' w in
       let there : take n room' ≡ telegram_for d s t r bytes = told.5 in
@@ -106,7 +105,7 @@ module _ (d s t r : ℕ) (bytes : List ℕ) where
       rw there (read_of_framed (message_for d s t r bytes) (length buffer)
       ∙ written_accepted (length buffer) told.3 told.0 told.1 told.2 h) in
       let message : message_of (take n room') ≡ message_for d s t r bytes = ap message_of there ∙ message_of_framed (message_for d s t r bytes) in (
-        reads.0 ∙ read_accepted (take n room') (length buffer) accepted ∙ ap (λ (m : List ℕ). Telegram (fields_of m)) message ∙ ap Telegram fields_of_written,
+        reads.0 ∙ read_accepted (take n room') (length buffer) accepted ∙ ap (λ (m : List ℕ). Ok (fields_of m)) message ∙ ap Ok fields_of_written,
         reads.1 ∙ rw (accepted, message, data_of_written),
       )
 
@@ -123,7 +122,7 @@ no_end_inside m i there =
 -- ---- M 2: "only that frame means that message"
 
 -- an accepted frame is the frame of its message
-pub accepted_framed : (frame : List ℕ) (room : ℕ) (t : Fields) → read_frame frame room ≡ Telegram t → frame ≡ framed (message_of frame)
+pub accepted_framed : (frame : List ℕ) (room : ℕ) (t : Fields) → read_frame frame room ≡ Ok t → frame ≡ framed (message_of frame)
 accepted_framed frame room t e = sound_framed frame (accepted_groups frame room (reading_telegram frame room t e).0).0
 
 last_two : (xs : List ℕ) (k : ℕ) → length xs ≡ suc (suc k) → xs ≡ take k xs ++ (byte xs k ∷ byte xs (suc k) ∷ [])
@@ -197,7 +196,7 @@ right_message m p h e =
     message_parts m h ∙ ap₂ (λ (x y : ℕ). front ++ (x ∷ y ∷ [])) he le
 
 -- an accepted frame is the telegram that the writer makes of what was answered
-pub accepted_telegram : (frame : List ℕ) (room : ℕ) (t : Fields) → AllBytes frame → read_frame frame room ≡ Telegram t
+pub accepted_telegram : (frame : List ℕ) (room : ℕ) (t : Fields) → AllBytes frame → read_frame frame room ≡ Ok t
     → frame ≡ telegram_for t.destination t.source t.sort t.register (data_in frame)
 unfolding fields_of
 accepted_telegram frame room t p e =
@@ -207,7 +206,7 @@ accepted_telegram frame room t p e =
     ∙ ap (λ (u : Fields). telegram_for u.destination u.source u.sort u.register (data_in frame)) (sym a.1)
 
 -- two accepted frames with the same answer and the same data are one
-pub one_frame : (f g : List ℕ) (room room' : ℕ) (t : Fields) → AllBytes f → AllBytes g → read_frame f room ≡ Telegram t → read_frame g room' ≡ Telegram t
+pub one_frame : (f g : List ℕ) (room room' : ℕ) (t : Fields) → AllBytes f → AllBytes g → read_frame f room ≡ Ok t → read_frame g room' ≡ Ok t
     → data_in f ≡ data_in g → f ≡ g
 one_frame f g room room' t pf pg ef eg same =
     accepted_telegram f room t pf ef
@@ -215,7 +214,7 @@ one_frame f g room room' t pf pg ef eg same =
     ∙ sym (accepted_telegram g room' t pg eg)
 
 -- what an accepted frame says, the writer takes
-pub accepted_fields : (frame : List ℕ) (room : ℕ) (t : Fields) → read_frame frame room ≡ Telegram t
+pub accepted_fields : (frame : List ℕ) (room : ℕ) (t : Fields) → read_frame frame room ≡ Ok t
     → (t.destination ≢ 0) × (t.source ≢ 0) × (t.sort ≤ 9) × (t.size ≡ length (data_in frame)) × (t.size ≤ 240) × (t.size ≤ room)
 unfolding fields_of data_of
 accepted_fields frame room t e =
@@ -227,7 +226,7 @@ accepted_fields frame room t e =
     rw a.1 (named.1, named.2, named.3, sym long, omega (arith, sized.1), sized.2)
 
 -- 01: "puts the data in the first bytes of the lent buffer. The rest of that buffer stays."
-pub read_lays : (frame room : List ℕ) (t : Fields) (room' : List ℕ) → Reads frame room (Telegram t) room' → room' ≡ data_in frame ++ drop t.size room
+pub read_lays : (frame room : List ℕ) (t : Fields) (room' : List ℕ) → Reads frame room (Ok t) room' → room' ≡ data_in frame ++ drop t.size room
 read_lays frame room t room' reads =
     let a = reading_telegram frame (length room) t (sym reads.0) in
     let f = accepted_fields frame (length room) t (sym reads.0) in
@@ -235,12 +234,12 @@ read_lays frame room t room' reads =
     rw f.3 (laid ∙ over_is (data_in frame) room (omega (arith, f.3, f.5)))
 
 -- the converse of `reads_back`: an accepted frame, written again from its answer and its data, is that very frame
-pub written_again : (frame room : List ℕ) (t : Fields) (room' : List ℕ) → AllBytes frame → Reads frame room (Telegram t) room'
+pub written_again : (frame room : List ℕ) (t : Fields) (room' : List ℕ) → AllBytes frame → Reads frame room (Ok t) room'
     → (buffer : List ℕ) (w : Writing) (buffer' : List ℕ) → length frame ≤ length buffer
     → Writes t.destination t.source t.sort t.register (take t.size room') buffer w buffer'
-    → (w ≡ Written (length frame)) × (buffer' ≡ over frame buffer)
+    → (w ≡ Ok (length frame)) × (buffer' ≡ over frame buffer)
 written_again frame room t room' bytes reads buffer w buffer' fits writes =
-    let e : read_frame frame (length room) ≡ Telegram t = sym reads.0 in
+    let e : read_frame frame (length room) ≡ Ok t = sym reads.0 in
     let told = accepted_fields frame (length room) t e in
     let laid : room' ≡ over (data_in frame) room = reads.1 ∙ rw (reading_telegram frame (length room) t e).0 refl in
     let there : take t.size room' ≡ data_in frame = rw (laid, told.3) (take-over (data_in frame) room (omega (arith, told.3, told.5))) in
@@ -248,16 +247,16 @@ written_again frame room t room' bytes reads buffer w buffer' fits writes =
     rw there (accepted_telegram frame (length room) t bytes e) in
     let done = fields_written t.destination t.source t.sort t.register (take t.size room') buffer w buffer'
     told.0 told.1 told.2 (rw there (omega (arith, told.3, told.4))) (omega (arith, ap length again)) writes in
-    (done.0 ∙ ap (λ (f : List ℕ). Written (length f)) (sym again), done.1 ∙ ap (λ (f : List ℕ). over f buffer) (sym again))
+    (done.0 ∙ ap (λ (f : List ℕ). Ok (length f)) (sym again), done.1 ∙ ap (λ (f : List ℕ). over f buffer) (sym again))
 
 -- ---- 01: "A telegram is at most 494 bytes.": whatever is written or accepted
 
-pub written_long : (d s t r : ℕ) (bytes room : List ℕ) (n : ℕ) (room' : List ℕ) → Writes d s t r bytes room (Written n) room' → n ≤ 494
+pub written_long : (d s t r : ℕ) (bytes room : List ℕ) (n : ℕ) (room' : List ℕ) → Writes d s t r bytes room (Ok n) room' → n ≤ 494
 written_long d s t r bytes room n room' w =
     let told = written_fields d s t r bytes room n room' w in
     rw told.4 (telegram_long (message_for d s t r bytes) (omega (arith, length-message_for d s t r bytes, told.3)))
 
-pub accepted_long : (frame : List ℕ) (room : ℕ) (t : Fields) → read_frame frame room ≡ Telegram t → length frame ≤ 494
+pub accepted_long : (frame : List ℕ) (room : ℕ) (t : Fields) → read_frame frame room ≡ Ok t → length frame ≤ 494
 accepted_long frame room t e =
     let a = reading_telegram frame room t e in
     rw (accepted_framed frame room t e) (telegram_long (message_of frame) (accepted_sized frame room a.0).1)
@@ -266,7 +265,7 @@ accepted_long frame room t e =
 -- bytes of room. It is refused as a check fault"
 
 -- any alteration of the same length whose own remainder is not 0
-pub altered_refused : (frame : List ℕ) (room : ℕ) (t : Fields) → read_frame frame room ≡ Telegram t
+pub altered_refused : (frame : List ℕ) (room : ℕ) (t : Fields) → read_frame frame room ≡ Ok t
     → (m : List ℕ) → length (message_of frame) ≡ length m → remainder_of (combined (message_of frame) m) ≢ 0
     → (room' : ℕ) → 240 ≤ room' → read_refusal (framed m) room' ≡ some CheckFault
 altered_refused frame room t e m same odd room' h =
@@ -277,16 +276,16 @@ altered_refused frame room t e m same odd room' h =
     (altered_seen (message_of frame) m same odd (accepted_message frame room a).0)
 
 -- so by the reader's contract the answer is number 7, and the buffer stays
-pub altered_reads : (frame : List ℕ) (room : ℕ) (t : Fields) → read_frame frame room ≡ Telegram t
+pub altered_reads : (frame : List ℕ) (room : ℕ) (t : Fields) → read_frame frame room ≡ Ok t
     → (m : List ℕ) → length (message_of frame) ≡ length m → remainder_of (combined (message_of frame) m) ≢ 0
-    → (buffer : List ℕ) (a : Reading) (buffer' : List ℕ) → 240 ≤ length buffer → Reads (framed m) buffer a buffer' → (a ≡ Refused CheckFault) × (buffer' ≡ buffer)
+    → (buffer : List ℕ) (a : Reading) (buffer' : List ℕ) → 240 ≤ length buffer → Reads (framed m) buffer a buffer' → (a ≡ Err CheckFault) × (buffer' ≡ buffer)
 altered_reads frame room t e m same odd buffer a buffer' h reads =
     let seven = altered_refused frame room t e m same odd (length buffer) h in
     (reads.0 ∙ sym (refused_reading (framed m) (length buffer) CheckFault seven), reads.1 ∙ rw seven)
 
 -- the mission's burst
-pub nearby_reads : (frame : List ℕ) (room : ℕ) (t : Fields) → read_frame frame room ≡ Telegram t → (m : List ℕ) → AlteredNearby (message_of frame) m
-    → (buffer : List ℕ) (a : Reading) (buffer' : List ℕ) → 240 ≤ length buffer → Reads (framed m) buffer a buffer' → (a ≡ Refused CheckFault) × (buffer' ≡ buffer)
+pub nearby_reads : (frame : List ℕ) (room : ℕ) (t : Fields) → read_frame frame room ≡ Ok t → (m : List ℕ) → AlteredNearby (message_of frame) m
+    → (buffer : List ℕ) (a : Reading) (buffer' : List ℕ) → 240 ≤ length buffer → Reads (framed m) buffer a buffer' → (a ≡ Err CheckFault) × (buffer' ≡ buffer)
 nearby_reads frame room t e m near = altered_reads frame room t e m near.same_length (burst_seen (combined (message_of frame) m) (nearby_burst near))
 
 -- ---- 01: "Show that any two outcomes allowed by it are equal."

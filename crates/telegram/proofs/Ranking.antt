@@ -23,8 +23,8 @@ use Rattle.telegram.specs.Write.{write_told, Writes}
 use Rattle.telegram.specs.declared.Fault.TheVariants.{ShortMessage, LongMessage, NoRoom, CheckFault, ZeroAddress, UnknownType}
 use Rattle.telegram.specs.declared.Fault.{Fault}
 use Rattle.telegram.specs.declared.Fields.{Fields}
-use Rattle.telegram.specs.declared.Reading.{Reading}
-use Rattle.telegram.specs.declared.Writing.{Writing}
+use Rattle.telegram.specs.Answers.{Reading}
+use Rattle.telegram.specs.Answers.{Writing}
 
 -- ---- 1
 

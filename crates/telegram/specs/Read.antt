@@ -1,6 +1,6 @@
 -- The frame reader: rows 1 to 9 as conditions on the frame and its message, and what is answered.
 -- Assumes nothing.
-use Rattle.std.specs.Prelude.{◌≡◌, ◌≢◌, ◌⊎◌, Bool, true, false, not, ◌||◌, ◌&&◌, List, [], ◌∷◌, ℕ, ◌+◌, ◌-◌, ◌≤◌, ◌<◌, eqb, ltb, length, get_or, take, drop}
+use Rattle.std.specs.Prelude.{◌≡◌, ◌≢◌, ◌⊎◌, Bool, true, false, not, ◌||◌, ◌&&◌, List, [], ◌∷◌, ℕ, ◌+◌, ◌-◌, ◌≤◌, ◌<◌, eqb, ltb, length, get_or, take, drop, Ok, Err}
 use Rattle.std.proofs.Math.Option.{Option, some, none}
 use Rattle.first.specs.First.{first_place}
 use Rattle.lent.specs.Lent.{over}
@@ -9,11 +9,9 @@ use Rattle.rows.specs.Rows.{Row, row, Test, test, first_row_of, or_later}
 use Rattle.frame.specs.Frame.{framed, between, message_of}
 use Rattle.telegram.specs.declared.Fault.{Fault}
 use Rattle.telegram.specs.declared.Fault.TheVariants.{NotFramed, StrayEnd, BadSubstitution, ShortMessage, LongMessage, NoRoom, CheckFault, ZeroAddress, UnknownType}
-use Rattle.telegram.specs.declared.Judged.{Judged}
-use Rattle.telegram.specs.declared.Judged.TheVariants.{Sound, Unsound}
+use Rattle.telegram.specs.Answers.{Judged}
 use Rattle.telegram.specs.declared.Fields.{Fields}
-use Rattle.telegram.specs.declared.Reading.{Reading}
-use Rattle.telegram.specs.declared.Reading.TheVariants.{Telegram, Refused}
+use Rattle.telegram.specs.Answers.{Reading}
 
 -- the byte at a place
 abbrev pub byte : List ℕ → ℕ → ℕ
@@ -125,13 +123,13 @@ fault_place UnknownType = 0
 
 -- the number that a reading tells, or none
 abbrev pub read_told : Reading → Option ℕ
-read_told (Refused f) = some (fault_number f)
-read_told (Telegram t) = none
+read_told (Err f) = some (fault_number f)
+read_told (Ok t) = none
 
 -- the place that a reading tells; 0 for none
 abbrev pub read_place : Reading → ℕ
-read_place (Refused f) = fault_place f
-read_place (Telegram t) = 0
+read_place (Err f) = fault_place f
+read_place (Ok t) = 0
 
 -- ---- how the rows are tested
 
@@ -170,8 +168,8 @@ message_tests message =
 
 -- the answer of a group of tests
 abbrev pub judged : Option Fault → Judged
-judged (some f) = Unsound f
-judged none = Sound
+judged (some f) = Err f
+judged none = Ok tt
 
 -- what refuses a message that is offered with so much room, if anything does: rows 4 to 9
 unfoldable pub message_refusal : List ℕ → ℕ → Option Fault
@@ -205,8 +203,8 @@ abbrev pub data_in : List ℕ → List ℕ
 data_in frame = data_of (message_of frame)
 
 abbrev pub read_answer : Option Fault → Fields → Reading
-read_answer (some f) t = Refused f
-read_answer none t = Telegram t
+read_answer (some f) t = Err f
+read_answer none t = Ok t
 
 -- a refusal leaves every byte of the buffer; the data take its first bytes
 abbrev pub room_after : Option Fault → List ℕ → List ℕ → List ℕ
@@ -236,8 +234,8 @@ Places fault r = r ≡ fault_place fault
 
 -- `why`: the refusal of a reading that is one; a telegram has none, and is answered as row 1 would be
 abbrev pub why_not : Reading → Fault
-why_not (Refused f) = f
-why_not (Telegram t) = NotFramed
+why_not (Err f) = f
+why_not (Ok t) = NotFramed
 
 abbrev pub Tells : Reading → Fault → Type 0
 Tells reading r = r ≡ why_not reading

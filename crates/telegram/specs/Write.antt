@@ -1,6 +1,6 @@
 -- The frame writer: rows 5, 8, 9 and 6 in its order, and what is written.
 -- Assumes nothing.
-use Rattle.std.specs.Prelude.{◌≡◌, ◌⊎◌, ◌||◌, List, [], ◌∷◌, ◌++◌, ℕ, ◌/◌, ◌%◌, ◌<◌, eqb, ltb, length}
+use Rattle.std.specs.Prelude.{◌≡◌, ◌⊎◌, ◌||◌, List, [], ◌∷◌, ◌++◌, ℕ, ◌/◌, ◌%◌, ◌<◌, eqb, ltb, length, Ok, Err}
 use Rattle.std.proofs.Math.Option.{Option, some, none}
 use Rattle.remainder.specs.Remainder.{remainder_of}
 use Rattle.rows.specs.Rows.{Row, row, Test, test, first_row_of}
@@ -9,8 +9,7 @@ use Rattle.telegram.specs.Read.{room_after, fault_number}
 use Rattle.telegram.specs.declared.Fault.{Fault}
 use Rattle.telegram.specs.declared.Fault.TheVariants.{LongMessage, NoRoom, ZeroAddress, UnknownType}
 use Rattle.telegram.specs.declared.Fields.{Fields}
-use Rattle.telegram.specs.declared.Writing.{Writing}
-use Rattle.telegram.specs.declared.Writing.TheVariants.{Written, Refused}
+use Rattle.telegram.specs.Answers.{Writing}
 
 -- what stands before the remainder: "destination, source, type, register, 0 to 240 data bytes"
 abbrev pub unsealed : ℕ → ℕ → ℕ → ℕ → List ℕ → List ℕ
@@ -61,8 +60,8 @@ write_rows destination source sort register bytes room =
 
 -- the number that a writing tells, or none
 abbrev pub write_told : Writing → Option ℕ
-write_told (Refused f) = some (fault_number f)
-write_told (Written n) = none
+write_told (Err f) = some (fault_number f)
+write_told (Ok n) = none
 
 -- ---- how they are tested, and what is answered
 
@@ -82,8 +81,8 @@ unfoldable pub write_refusal : ℕ → ℕ → ℕ → ℕ → List ℕ → ℕ 
 write_refusal destination source sort register bytes room = first_row_of (write_tests destination source sort register bytes room)
 
 abbrev pub write_answer : Option Fault → ℕ → Writing
-write_answer (some f) n = Refused f
-write_answer none n = Written n
+write_answer (some f) n = Err f
+write_answer none n = Ok n
 
 -- a message is sent: what is answered, and what the room holds then
 abbrev pub Sends : List ℕ → List ℕ → Writing → List ℕ → Type 0

@@ -68,26 +68,6 @@ pub struct Fields {
     pub size: usize,
 }
 
-// What a group of rows says of a frame.
-#[derive(Clone, Copy)]
-enum Judged {
-    Sound,
-    Unsound(Fault),
-}
-
-#[derive(Clone, Copy)]
-pub enum Reading {
-    Telegram(Fields),
-    Refused(Fault),
-}
-
-#[derive(Clone, Copy)]
-pub enum Writing {
-    // How long the telegram is.
-    Written(usize),
-    Refused(Fault),
-}
-
 // The paper's number of a refusal.
 pub fn number(fault: Fault) -> u8
     ensures { Numbers fault result }
@@ -124,11 +104,11 @@ pub fn place(fault: Fault) -> usize
 
 // The refusal of a reading, for whoever passes it on whole. A telegram has none; it is answered
 // as NotFramed, and nobody asks.
-pub fn why(reading: Reading) -> Fault
+pub fn why(reading: Result<Fields, Fault>) -> Fault
     ensures { Tells reading result }
 {
     match reading {
-        Reading::Refused(fault) => fault,
-        Reading::Telegram(_) => Fault::NotFramed,
+        Err(fault) => fault,
+        Ok(_) => Fault::NotFramed,
     }
 }

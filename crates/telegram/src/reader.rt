@@ -7,26 +7,23 @@ ghost use Rattle.rows.specs.Rows.{first_row_of};
 ghost use Rattle.std.specs.Prelude.{◌≡◌, false, ◌-◌, ◌≤◌, ◌<◌, length, take, drop};
 ghost use Rattle.std.proofs.Math.Option.{none};
 
-use crate::{DATA_AT, Fault, Fields, Judged, LONGEST, Reading, SHORTEST, TOGGLE_BITS};
+use crate::{DATA_AT, Fault, Fields, LONGEST, SHORTEST, TOGGLE_BITS};
 use frame::{END, START, SUBSTITUTION};
 
 // Reads a frame. Its data go into the room's first bytes, and the rest of the room stays; a
 // refusal leaves all of it.
-pub fn read(frame: &[u8], room: &mut [u8]) -> Reading
+pub fn read(frame: &[u8], room: &mut [u8]) -> Result<Fields, Fault>
     ensures { Reads frame.now room.old result room.new }
 {
     let mut message = [0u8; LONGEST];
-    let answer = judge(frame, room.len(), &mut message);
-    let Reading::Telegram(t) = answer else {
-        return answer;
-    };
+    let t = judge(frame, room.len(), &mut message)?;
     let end = DATA_AT + t.size;
     lent::lay_at(&message[DATA_AT..end], room, 0);
-    answer
+    Ok(t)
 }
 
 // Judges a frame as `read` does with so much room, and touches no buffer.
-pub fn examine(frame: &[u8], room: usize) -> Reading
+pub fn examine(frame: &[u8], room: usize) -> Result<Fields, Fault>
     ensures { Judges frame.now room result }
 {
     let mut message = [0u8; LONGEST];
@@ -34,45 +31,41 @@ pub fn examine(frame: &[u8], room: usize) -> Reading
 }
 
 // The judgement that both share. `message` takes the message, where there is one.
-fn judge(frame: &[u8], room: usize, message: &mut [u8]) -> Reading
+fn judge(frame: &[u8], room: usize, message: &mut [u8]) -> Result<Fields, Fault>
     requires { length message.old ≡ 246 }
     ensures { (result ≡ read_frame frame.now room)
         × (read_refusal frame.now room ≡ none → message.new ≡ over (message_of frame.now) message.old) }
 {
-    match framing(frame) {
-        Judged::Unsound(fault) => Reading::Refused(fault),
-        Judged::Sound => judge_between(inside(frame), room, message),
-    }
+    framing(frame)?;
+    judge_between(inside(frame), room, message)
 }
 
 // Rows 4 to 9, of what stands between the ends.
-fn judge_between(bytes: &[u8], room: usize, message: &mut [u8]) -> Reading
+fn judge_between(bytes: &[u8], room: usize, message: &mut [u8]) -> Result<Fields, Fault>
     requires { length message.old ≡ 246 }
     ensures { (result ≡ read_answer (message_refusal (restored false bytes.now) room) (fields_of (restored false bytes.now)))
         × (message.new ≡ over (restored false bytes.now) message.old) }
 {
     let n = frame::restore(bytes, message);
-    match sized(n, room) {
-        Judged::Unsound(fault) => Reading::Refused(fault),
-        Judged::Sound => judge_message(&message[0..n]),
-    }
+    sized(n, room)?;
+    judge_message(&message[0..n])
 }
 
 // Rows 7 to 9, of a message of 6 bytes or more.
-fn judge_message(message: &[u8]) -> Reading
+fn judge_message(message: &[u8]) -> Result<Fields, Fault>
     requires { 6 ≤ length message.now }
     ensures { result ≡ read_answer (first_row_of (message_tests message.now)) (fields_of message.now) }
 {
     if remainder::remainder(message) != 0 {
-        return Reading::Refused(Fault::CheckFault);
+        return Err(Fault::CheckFault);
     }
     if message[0] == 0 || message[1] == 0 {
-        return Reading::Refused(Fault::ZeroAddress);
+        return Err(Fault::ZeroAddress);
     }
     if TOGGLE_BITS < message[2] {
-        return Reading::Refused(Fault::UnknownType);
+        return Err(Fault::UnknownType);
     }
-    Reading::Telegram(Fields {
+    Ok(Fields {
         destination: message[0],
         source: message[1],
         sort: message[2],
@@ -82,37 +75,37 @@ fn judge_message(message: &[u8]) -> Reading
 }
 
 // Rows 1 to 3.
-fn framing(frame: &[u8]) -> Judged
+fn framing(frame: &[u8]) -> Result<(), Fault>
     ensures { result ≡ judged (first_row_of (frame_tests frame.now)) }
 {
     if not_framed(frame) {
-        return Judged::Unsound(Fault::NotFramed);
+        return Err(Fault::NotFramed);
     }
     let bytes = inside(frame);
     if stray_end(bytes) {
-        return Judged::Unsound(Fault::StrayEnd);
+        return Err(Fault::StrayEnd);
     }
     let place = bad_place(frame);
     if place < frame.len() {
-        return Judged::Unsound(Fault::BadSubstitution(place));
+        return Err(Fault::BadSubstitution(place));
     }
-    Judged::Sound
+    Ok(())
 }
 
 // Rows 4 to 6, of a message of n bytes.
-fn sized(n: usize, room: usize) -> Judged
+fn sized(n: usize, room: usize) -> Result<(), Fault>
     ensures { result ≡ judged (first_row_of (length_tests n room)) }
 {
     if n < SHORTEST {
-        return Judged::Unsound(Fault::ShortMessage);
+        return Err(Fault::ShortMessage);
     }
     if LONGEST < n {
-        return Judged::Unsound(Fault::LongMessage);
+        return Err(Fault::LongMessage);
     }
     if room < n - SHORTEST {
-        return Judged::Unsound(Fault::NoRoom);
+        return Err(Fault::NoRoom);
     }
-    Judged::Sound
+    Ok(())
 }
 
 // What stands between the ends.

@@ -3,7 +3,7 @@ ghost use Rattle.telegram.specs.Write.{Writes, Sends, message_for};
 ghost use Rattle.lent.specs.Lent.{over};
 ghost use Rattle.std.specs.Prelude.{◌≡◌, ◌≤◌, length};
 
-use crate::{DATA_AT, Fault, LONGEST, MOST_DATA, SHORTEST, TOGGLE_BITS, Writing};
+use crate::{DATA_AT, Fault, LONGEST, MOST_DATA, SHORTEST, TOGGLE_BITS};
 use frame::{END, START};
 
 // Writes a telegram into the room's first bytes and answers its length. The rest of the room
@@ -15,17 +15,17 @@ pub fn write(
     register: u8,
     data: &[u8],
     room: &mut [u8],
-) -> Writing
+) -> Result<usize, Fault>
     ensures { Writes destination source sort register «data».now room.old result room.new }
 {
     if MOST_DATA < data.len() {
-        return Writing::Refused(Fault::LongMessage);
+        return Err(Fault::LongMessage);
     }
     if destination == 0 || source == 0 {
-        return Writing::Refused(Fault::ZeroAddress);
+        return Err(Fault::ZeroAddress);
     }
     if TOGGLE_BITS < sort {
-        return Writing::Refused(Fault::UnknownType);
+        return Err(Fault::UnknownType);
     }
     let mut message = [0u8; LONGEST];
     compose(destination, source, sort, register, data, &mut message);
@@ -47,16 +47,16 @@ fn compose(destination: u8, source: u8, sort: u8, register: u8, data: &[u8], spa
 }
 
 // Writes the telegram of a message, substituted, where there is room for it.
-fn send(message: &[u8], room: &mut [u8]) -> Writing
+fn send(message: &[u8], room: &mut [u8]) -> Result<usize, Fault>
     requires { length message.now ≤ 246 }
     ensures { Sends message.now room.old result room.new }
 {
     let n = frame::substituted_length(message) + 2;
     if room.len() < n {
-        return Writing::Refused(Fault::NoRoom);
+        return Err(Fault::NoRoom);
     }
     lent::lay_at(&[START], room, 0);
     frame::substitute_at(message, room, 1);
     lent::lay_at(&[END], room, n - 1);
-    Writing::Written(n)
+    Ok(n)
 }

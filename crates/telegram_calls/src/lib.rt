@@ -1,7 +1,7 @@
 // The calls `rem`, `read` and `write`. A part of the test tool `rehearsal`.
 #![tactic(auto)]
 
-use telegram::{Fields, Reading, Writing};
+use telegram::{Fault, Fields};
 use words::{Words, byte, count};
 
 // rem BYTES
@@ -37,12 +37,10 @@ fn read_now(frame: &[u8], room: &mut [u8], out: &mut [u8]) -> usize {
     answers::buffer(out, at, room)
 }
 
-fn read_fields(answer: Reading, out: &mut [u8]) -> usize {
+fn read_fields(answer: Result<Fields, Fault>, out: &mut [u8]) -> usize {
     match answer {
-        Reading::Refused(fault) => {
-            answers::refused_at(out, telegram::number(fault), telegram::place(fault))
-        }
-        Reading::Telegram(t) => fields(t, out),
+        Err(fault) => answers::refused_at(out, telegram::number(fault), telegram::place(fault)),
+        Ok(t) => fields(t, out),
     }
 }
 
@@ -105,10 +103,10 @@ fn write_now(f: Four, data: &[u8], room: &mut [u8], out: &mut [u8]) -> usize {
     answers::buffer(out, at, room)
 }
 
-fn written(answer: Writing, out: &mut [u8]) -> usize {
+fn written(answer: Result<usize, Fault>, out: &mut [u8]) -> usize {
     match answer {
-        Writing::Refused(fault) => answers::refused(out, telegram::number(fault)),
-        Writing::Written(n) => {
+        Err(fault) => answers::refused(out, telegram::number(fault)),
+        Ok(n) => {
             let at = answers::ok(out);
             answers::field(out, at, b" n=", n as u64)
         }

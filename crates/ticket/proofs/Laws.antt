@@ -1,5 +1,6 @@
 -- What is promised of a ticket that waits, each law under the sentence that it keeps.
 -- Assumes nothing.
+use Rattle.std.specs.Prelude.{Ok, Err}
 use Rattle.std.proofs.Common.{◌≡◌, ℕ, zero, suc, ◌+◌, ◌-◌, ◌%◌, ◌^◌, ◌<◌, ◌≤◌, Bool, true, false, cond, not, ◌&&◌, eqb, ◌≢◌, ◌⊎◌, ◌↔◌, [], ◌∷◌, sym, refl, ap, ◌∙◌, inl, inr, ⊎_elim, true≢false, arith, ne_eqb, eqb-true}
 use mathlib.Core.Option.{Option, some, none}
 use native.Mathlib.Decide.{dec_le}
@@ -19,8 +20,7 @@ use Rattle.ticket.specs.Ticket.{Open, withdrawn_at}
 use Rattle.ticket.specs.declared.Ticket.{Ticket}
 use Rattle.ticket.specs.declared.Fault.{Fault}
 use Rattle.ticket.specs.declared.Fault.TheVariants.{Withdrawn, NoTicket, OtherModule, OtherKind, OtherRegister}
-use Rattle.ticket.specs.declared.Judged.{Judged}
-use Rattle.ticket.specs.declared.Judged.TheVariants.{Fits, Misfit}
+use Rattle.ticket.specs.Answers.{Judged}
 
 -- ---- 02, #102: "an address closed by cancel or expiry rests: it is not given out exactly while the clock minus its closing, modulo
 -- 4294967296, is under 1000 ms"
@@ -172,11 +172,11 @@ open_told_lem ticket t live n e =
     go false false false p = clash (cc)
 
 -- what an answer tells of the refusal that it was made from
-pub judged_misfit : (o : Option Fault) (f : Fault) → Misfit f ≡ fit_answer o → o ≡ some f
+pub judged_misfit : (o : Option Fault) (f : Fault) → Err f ≡ fit_answer o → o ≡ some f
 judged_misfit none f e = cc
 judged_misfit (some g) f e = cc
 
-pub judged_fits : (o : Option Fault) → Fits ≡ fit_answer o → o ≡ none
+pub judged_fits : (o : Option Fault) → Ok tt ≡ fit_answer o → o ≡ none
 judged_fits none e = refl
 judged_fits (some g) e = cc
 

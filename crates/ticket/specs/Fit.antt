@@ -1,6 +1,6 @@
 -- Which reply fits a ticket: rows 61 and 17 to 20, of what a telegram says and what stands on its destination.
 -- Assumes nothing.
-use Rattle.std.specs.Prelude.{◌≡◌, ℕ, zero, suc, ◌≤◌, Bool, true, false, cond, not, ◌&&◌, ◌||◌, ◌≢◌, ◌⊎◌, List, [], ◌∷◌, ◌==◌, nat_le}
+use Rattle.std.specs.Prelude.{◌≡◌, ℕ, zero, suc, ◌≤◌, Bool, true, false, cond, not, ◌&&◌, ◌||◌, ◌≢◌, ◌⊎◌, List, [], ◌∷◌, ◌==◌, nat_le, Ok, Err}
 use Rattle.std.proofs.Math.Option.{Option, some, none}
 use Rattle.rows.specs.Rows.{Row, row, Test, test, first_row_of}
 use Rattle.telegram.specs.declared.Fields.{Fields}
@@ -8,8 +8,7 @@ use Rattle.ticket.specs.Ticket.{Open}
 use Rattle.ticket.specs.declared.Ticket.{Ticket}
 use Rattle.ticket.specs.declared.Fault.{Fault}
 use Rattle.ticket.specs.declared.Fault.TheVariants.{Withdrawn, NoTicket, OtherModule, OtherKind, OtherRegister}
-use Rattle.ticket.specs.declared.Judged.{Judged}
-use Rattle.ticket.specs.declared.Judged.TheVariants.{Fits, Misfit}
+use Rattle.ticket.specs.Answers.{Judged}
 
 -- "A read is answered by type 8, 0, 1 or 2, a write of any sort by 3, 0, 1 or 2."
 unfoldable pub KindFits : ℕ → ℕ → Type 0
@@ -84,14 +83,14 @@ fault_number OtherKind = 19
 fault_number OtherRegister = 20
 
 abbrev pub fit_told : Judged → Option ℕ
-fit_told (Misfit f) = some (fault_number f)
-fit_told Fits = none
+fit_told (Err f) = some (fault_number f)
+fit_told (Ok _) = none
 
 -- ---- the contracts
 
 abbrev pub fit_answer : Option Fault → Judged
-fit_answer (some f) = Misfit f
-fit_answer none = Fits
+fit_answer (some f) = Err f
+fit_answer none = Ok tt
 
 abbrev pub Judges : Ticket → Fields → Judged → Type 0
 Judges ticket t r = r ≡ fit_answer (fit_refusal ticket t)

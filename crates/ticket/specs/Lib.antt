@@ -1,3 +1,4 @@
+pub mod Answers
 pub mod Ticket
 pub mod Fit
 pub mod Due

@@ -55,12 +55,6 @@ pub enum Fault {
     OtherRegister,
 }
 
-#[derive(Clone, Copy)]
-pub enum Judged {
-    Fits,
-    Misfit(Fault),
-}
-
 // The paper's number of a refusal.
 pub fn number(fault: Fault) -> u8
     ensures { Numbers fault result }
@@ -83,7 +77,7 @@ pub fn is_resting(ticket: Ticket, clock: u32) -> bool
 }
 
 // Rows 61 and 17 to 20, of what a telegram says and what stands on its destination.
-pub fn judge(ticket: Ticket, t: telegram::Fields) -> Judged
+pub fn judge(ticket: Ticket, t: telegram::Fields) -> Result<(), Fault>
     ensures { Judges ticket t result }
 {
     let asked = ticket.asked;
@@ -93,20 +87,20 @@ pub fn judge(ticket: Ticket, t: telegram::Fields) -> Judged
     let register = register_fits(asked.register, t.sort, t.register);
     if !ticket.live {
         if ticket.withdrawn {
-            return Judged::Misfit(Fault::Withdrawn);
+            return Err(Fault::Withdrawn);
         }
-        return Judged::Misfit(Fault::NoTicket);
+        return Err(Fault::NoTicket);
     }
     if source != unit {
-        return Judged::Misfit(Fault::OtherModule);
+        return Err(Fault::OtherModule);
     }
     if !kind {
-        return Judged::Misfit(Fault::OtherKind);
+        return Err(Fault::OtherKind);
     }
     if !register {
-        return Judged::Misfit(Fault::OtherRegister);
+        return Err(Fault::OtherRegister);
     }
-    Judged::Fits
+    Ok(())
 }
 
 // A nack, a check error and a busy answer every request; a read has a datagram, a write an ack.

@@ -1,6 +1,9 @@
 -- What each call on lanes in order did, where it was not refused, in the request's sentences; and the definitions that the other laws speak of,
 -- said out.
 -- Assumes nothing.
+use Rattle.lanes.specs.declared.Joined.{Joined}
+use Rattle.lanes.specs.Answers.{joining, Joining}
+use Rattle.std.specs.Prelude.{Ok, Err}
 use mathlib.Core.Path.{◌≡◌, refl, sym, ap, subst, ◌∙◌}
 use mathlib.Core.Bool.{true}
 use mathlib.Core.List.{List, ◌∷◌}
@@ -28,12 +31,10 @@ use Rattle.lanes.specs.declared.AfterGrant.{AfterGrant}
 use Rattle.lanes.specs.declared.AfterJoin.{AfterJoin}
 use Rattle.lanes.specs.declared.AfterWithdraw.{AfterWithdraw}
 use Rattle.lanes.specs.declared.Fault.{Fault}
-use Rattle.lanes.specs.declared.Granting.TheVariants.{Granted, TakenOut, Refused as NotGranted}
-use Rattle.lanes.specs.declared.Joining.TheVariants.{Joined, Refused as NotJoined}
+use Rattle.lanes.specs.declared.Turn.TheVariants.{Granted, TakenOut}
 use Rattle.lanes.specs.declared.Lane.{Lane}
 use Rattle.lanes.specs.declared.Lanes.{Lanes}
 use Rattle.lanes.specs.declared.Waiting.{Waiting}
-use Rattle.lanes.specs.declared.Withdrawing.TheVariants.{Done, Refused as NotDone}
 use Rattle.turns.specs.Turns.{Orderly, oldest}
 use Rattle.turns.specs.Queue.{less}
 use Rattle.turns.specs.Outcome.{JoinedAt, TurnAt, GrantedAt, TakenOutAt, WithdrawnAt}
@@ -63,23 +64,28 @@ which_lane lanes job near = elim (dec_lt (own_lane lanes job) 16) [
       )
 ]
 
-pub joined_right : (lanes : Lanes) (asked : Request) (bytes : List ℕ) (r : AfterJoin) (lane at : ℕ) → Orderly lanes → Joins lanes asked bytes r → r.answer ≡ Joined lane at
+-- a number of what was answered; 0 of a refusal
+abbrev given : (Joined → ℕ) → Joining → ℕ
+given field (Ok told) = field told
+given field (Err f) = 0
+
+pub joined_right : (lanes : Lanes) (asked : Request) (bytes : List ℕ) (r : AfterJoin) (lane at : ℕ) → Orderly lanes → Joins lanes asked bytes r → r.answer ≡ joining lane at
     → JoinedAt lanes asked bytes lane at r.lanes
 joined_right lanes asked bytes r lane at o j e = go (join_refusal lanes asked bytes) refl j.0 j.1
   where
     go : (x : Option Fault) → join_refusal lanes asked bytes ≡ x → r.answer ≡ join_answer x lanes (lane_for lanes asked.job)
         → r.lanes ≡ join_lanes x lanes (lane_for lanes asked.job) asked bytes → JoinedAt lanes asked bytes lane at r.lanes
-    go (some f) x a b = let both : Joined lane at ≡ NotJoined f = sym e ∙ a in clash (cc)
+    go (some f) x a b = let both : joining lane at ≡ Err f = sym e ∙ a in clash (cc)
     go none x a b =
         let fit = fit_to_join lanes asked bytes x in
         let k : ℕ = lane_for lanes asked.job in
-        let both : Joined lane at ≡ Joined (lane_for lanes asked.job + 1) ((lane_at lanes (lane_for lanes asked.job)).size + 1) = sym e ∙ a in
+        let both : joining lane at ≡ joining (lane_for lanes asked.job + 1) ((lane_at lanes (lane_for lanes asked.job)).size + 1) = sym e ∙ a in
         let new : Lane = with_last (lane_at lanes (lane_for lanes asked.job)) (waiting_with asked bytes) in
         record {
           place = lane_for lanes asked.job;
           within = fit.1;
-          lane_is = let l : lane ≡ lane_for lanes asked.job + 1 = cc in l;
-          at-is = (let l : at ≡ (lane_at lanes (lane_for lanes asked.job)).size + 1 = cc in l) ∙ ap (λ (n : ℕ). n + 1) (sym (size_is o (lane_for lanes asked.job) fit.1));
+          lane_is = ap (given (λ (j : Joined). j.lane)) both;
+          at-is = ap (given (λ (j : Joined). j.place)) both ∙ ap (λ (n : ℕ). n + 1) (sym (size_is o (lane_for lanes asked.job) fit.1));
           which = which_lane lanes asked.job fit.1;
           longer_by_it = ap (λ (l : Lanes). queue_in (lane_at l (lane_for lanes asked.job))) b
               ∙ (ap queue_in (put_there lanes lanes.last (lane_for lanes asked.job) new (omega (arith, o.sixteen, fit.1)))
@@ -116,11 +122,11 @@ module _ (lanes : Lanes) (desk : Desk) (clock : ℕ) (room : List ℕ) (r : Afte
         turn = ap (λ (l : Lanes). l.last) next;
       }
 
-  pub granted_right : (job address n : ℕ) → Grants lanes desk clock room r room' → r.answer ≡ Granted job address n → GrantedAt lanes desk clock room job address n r room'
+  pub granted_right : (job address n : ℕ) → Grants lanes desk clock room r room' → r.answer ≡ Ok (Granted job address n) → GrantedAt lanes desk clock room job address n r room'
   granted_right job address n g e = go (grant_refusal lanes (length room)) refl g
     where
       go : (x : Option Fault) → grant_refusal lanes (length room) ≡ x → GrantsBy x lanes desk clock room r room' → GrantedAt lanes desk clock room job address n r room'
-      go (some f) x g = let both : Granted job address n ≡ NotGranted f = sym e ∙ g.0.0 in clash (cc)
+      go (some f) x g = let both : Ok (Granted job address n) ≡ Err f = sym e ∙ g.0.0 in clash (cc)
       go none x g =
           let told = granted_told (oldest lanes).asked.job job address n g.0.answer (sym e ∙ g.2.0) in
           record {
@@ -134,11 +140,11 @@ module _ (lanes : Lanes) (desk : Desk) (clock : ℕ) (room : List ℕ) (r : Afte
           }
 
   -- 02, #110: one that was taken out
-  pub taken_right : (job : ℕ) → Grants lanes desk clock room r room' → r.answer ≡ TakenOut job → TakenOutAt lanes desk room job r room'
+  pub taken_right : (job : ℕ) → Grants lanes desk clock room r room' → r.answer ≡ Ok (TakenOut job) → TakenOutAt lanes desk room job r room'
   taken_right job whole e = go (grant_refusal lanes (length room)) refl whole
     where
       go : (x : Option Fault) → grant_refusal lanes (length room) ≡ x → GrantsBy x lanes desk clock room r room' → TakenOutAt lanes desk room job r room'
-      go (some f) x g = let both : TakenOut job ≡ NotGranted f = sym e ∙ g.0.0 in clash (cc)
+      go (some f) x g = let both : Ok (TakenOut job) ≡ Err f = sym e ∙ g.0.0 in clash (cc)
       go none x g =
           let told = taken_told (oldest lanes).asked.job job g.0.answer (sym e ∙ g.2.0) in
           let kept = taken_out_keeps lanes desk clock room r room' whole job e in
@@ -154,12 +160,12 @@ module _ (lanes : Lanes) (desk : Desk) (clock : ℕ) (room : List ℕ) (r : Afte
 
 -- ---- withdrawing
 
-pub withdrawn_right : (lanes : Lanes) (job at : ℕ) (r : AfterWithdraw) → Orderly lanes → Withdraws lanes job at r → r.answer ≡ Done → WithdrawnAt lanes job at r.lanes
+pub withdrawn_right : (lanes : Lanes) (job at : ℕ) (r : AfterWithdraw) → Orderly lanes → Withdraws lanes job at r → r.answer ≡ Ok tt → WithdrawnAt lanes job at r.lanes
 withdrawn_right lanes job at r o w e = go (withdraw_refusal lanes job at) refl w.0 w.1
   where
     go : (x : Option Fault) → withdraw_refusal lanes job at ≡ x → r.answer ≡ withdraw_answer x → r.lanes ≡ withdraw_lanes x lanes (own_lane lanes job) at
         → WithdrawnAt lanes job at r.lanes
-    go (some f) x a b = let both : Done ≡ NotDone f = sym e ∙ a in clash (cc)
+    go (some f) x a b = let both : Ok tt ≡ Err f = sym e ∙ a in clash (cc)
     go none x a b =
         let fit = fit_to_withdraw lanes job at x in
         record {

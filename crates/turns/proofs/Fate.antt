@@ -1,5 +1,6 @@
 -- What it means that a request was opened, taken out or withdrawn: by which call, and that it was this one, as it was asked.
 -- Assumes nothing.
+use Rattle.std.specs.Prelude.{Err, Ok}
 use mathlib.Core.Path.{◌≡◌, refl, sym, ap, subst, ◌∙◌}
 use mathlib.Core.Bool.{Bool, true, false, cond}
 use mathlib.Core.List.{List, [], ◌∷◌, ◌++◌}
@@ -14,8 +15,7 @@ use Rattle.rows.proofs.Laws.{clash}
 use Rattle.desk.proofs.Folder.{held_exactly}
 use Rattle.desk.specs.Open.{open_told}
 use Rattle.desk.specs.declared.Fault.TheVariants.{FolderHeld}
-use Rattle.desk.specs.declared.Opening.{Opening}
-use Rattle.desk.specs.declared.Opening.TheVariants.{Opened, Refused as NotOpened}
+use Rattle.desk.specs.Answers.{Opening, opening}
 use Rattle.lanes.proofs.Answers.{moves_why}
 use Rattle.lanes.proofs.Laws.{taken_out_keeps}
 use Rattle.lanes.proofs.Ranking.{own_is}
@@ -24,7 +24,7 @@ use Rattle.lanes.specs.Grant.{grant_refusal, next_place, moves_on, from_desk, Gr
 use Rattle.lanes.specs.Withdraw.{withdraw_refusal}
 use Rattle.lanes.specs.declared.AfterGrant.{AfterGrant}
 use Rattle.lanes.specs.declared.Fault.{Fault}
-use Rattle.lanes.specs.declared.Granting.TheVariants.{TakenOut}
+use Rattle.lanes.specs.declared.Turn.TheVariants.{TakenOut}
 use Rattle.lanes.specs.declared.Waiting.{Waiting}
 use Rattle.turns.specs.Turns.{Hall, Call, joins, grants, withdraws, at_desk, after, all_after, oldest, opened_with, Orderly}
 use Rattle.turns.specs.Fair.{turn_used, counts, Fate, waits, had_turn, withdrawn, taken_at, at_grant, at_withdrawal, fate_by, fate, OpenedBy, TakenOutBy, Ended}
@@ -67,9 +67,9 @@ module _ (hall : Hall) (lane place clock : ℕ) (room : List ℕ) (r : AfterGran
 
       turn : (a : Opening) → g.0.answer ≡ a → moves_on a ≡ true → Turn (oldest hall.lanes)
       turn a is used = moves_why (λ b. g.0.answer ≡ b → Turn (oldest hall.lanes))
-          (λ address n answer. inl (record { address = address; n = n; told = told (Opened address n) answer; at_desk_lem = g.0; opens = g.1; answered = answer; next = g.2.2 }))
+          (λ address n answer. inl (record { address = address; n = n; told = told (opening address n) answer; at_desk_lem = g.0; opens = g.1; answered = answer; next = g.2.2 }))
           (λ answer.
-          let out : r.answer ≡ TakenOut (oldest hall.lanes).asked.job = told (NotOpened FolderHeld) answer in
+          let out : r.answer ≡ Ok (TakenOut (oldest hall.lanes).asked.job) = told (Err FolderHeld) answer in
           let kept = taken_out_keeps hall.lanes hall.desk clock room r room' whole (oldest hall.lanes).asked.job out in
           inr (record {
             told = out;

@@ -1,6 +1,7 @@
 -- What holds of the lanes and the desk behind them over any calls: the laws that callers may cite, each under the sentence that it keeps. How
 -- soon a request is opened is in Fair.antt.
 -- Assumes nothing.
+use Rattle.std.specs.Prelude.{Ok, Err}
 use mathlib.Core.Path.{◌≡◌, refl, sym, ap, subst, ◌∙◌}
 use mathlib.Core.Bool.{Bool, true, false, cond}
 use mathlib.Core.List.{List, [], ◌∷◌, ◌++◌}
@@ -25,8 +26,7 @@ use Rattle.desk.specs.Open.{distance_of, given_place, request_at, open_refusal, 
 use Rattle.desk.specs.declared.Desk.{Desk}
 use Rattle.desk.specs.declared.Fault.{Fault as DeskFault}
 use Rattle.desk.specs.declared.Fault.TheVariants.{FolderHeld, NoneFree}
-use Rattle.desk.specs.declared.Opening.{Opening}
-use Rattle.desk.specs.declared.Opening.TheVariants.{Opened, Refused as NotOpened}
+use Rattle.desk.specs.Answers.{Opening}
 use Rattle.nights.proofs.Laws.{any_night, opens_after, then_all}
 use Rattle.nights.specs.Night.{Night, after_all, answered_all}
 use Rattle.lanes.proofs.Ranking.{grant_ranked}
@@ -39,8 +39,8 @@ use Rattle.lanes.specs.declared.AfterJoin.{AfterJoin}
 use Rattle.lanes.specs.declared.AfterWithdraw.{AfterWithdraw}
 use Rattle.lanes.specs.declared.Fault.{Fault}
 use Rattle.lanes.specs.declared.Fault.TheVariants.{AtDesk}
-use Rattle.lanes.specs.declared.Granting.{Granting}
-use Rattle.lanes.specs.declared.Granting.TheVariants.{Granted, TakenOut, Refused as NotGranted}
+use Rattle.lanes.specs.Answers.{Granting}
+use Rattle.lanes.specs.declared.Turn.TheVariants.{Granted, TakenOut}
 use Rattle.lanes.specs.declared.Lanes.{Lanes}
 use Rattle.turns.specs.Fair.{counts, turn_used}
 use Rattle.turns.specs.Turns.{Hall, Call, joins, grants, withdraws, at_desk, after, granted, all_after, oldest, opened_with, reaches, grant_reaches, all_reach, Orderly}
@@ -181,9 +181,9 @@ withdraws_after hall job at r w =
 
 -- a grant that opened a request or took it out is one that counts
 abbrev pub uses_turn : Granting → Bool
-uses_turn (Granted job address n) = true
-uses_turn (TakenOut job) = true
-uses_turn (NotGranted f) = false
+uses_turn (Ok (Granted job address n)) = true
+uses_turn (Ok (TakenOut job)) = true
+uses_turn (Err f) = false
 
 pub grants_after : (hall : Hall) (clock : ℕ) (room : List ℕ) (r : AfterGrant) (room' : List ℕ) → Grants hall.lanes hall.desk clock room r room'
     → (after hall (grants clock room) ≡ record { lanes = r.lanes; desk = r.desk })
@@ -206,13 +206,13 @@ grants_after hall clock room r room' g = go (grant_refusal hall.lanes (length ro
       where
         by : (a : Opening) → (of_opening a (oldest hall.lanes) clock ≡ saw_granting (from_desk (oldest hall.lanes).asked.job a) (oldest hall.lanes) clock)
             × (moves_on a ≡ uses_turn (from_desk (oldest hall.lanes).asked.job a))
-        by (Opened address n) = (refl, refl)
-        by (NotOpened f) = out (takes_out f)
+        by (Ok told) = (refl, refl)
+        by (Err f) = out (takes_out f)
           where
             out : (b : Bool)
                 → (cond b (taken_out (oldest hall.lanes).asked (data_of (oldest hall.lanes))) nothing
-                ≡ saw_granting (cond b (TakenOut (oldest hall.lanes).asked.job) (NotGranted (AtDesk f))) (oldest hall.lanes) clock)
-                × (b ≡ uses_turn (cond b (TakenOut (oldest hall.lanes).asked.job) (NotGranted (AtDesk f))))
+                ≡ saw_granting (cond b (Ok (TakenOut (oldest hall.lanes).asked.job)) (Err (AtDesk f))) (oldest hall.lanes) clock)
+                × (b ≡ uses_turn (cond b (Ok (TakenOut (oldest hall.lanes).asked.job)) (Err (AtDesk f))))
             out true = (refl, refl)
             out false = (refl, refl)
 

@@ -1,5 +1,8 @@
 -- What the definitions and records say that the other laws speak of, said out.
 -- Assumes nothing.
+use Rattle.lanes.specs.Answers.{joining}
+use Rattle.desk.specs.Answers.{opening}
+use Rattle.std.specs.Prelude.{Ok, Err}
 use mathlib.Core.Path.{◌≡◌, refl, sym, ap, ◌∙◌}
 use mathlib.Core.Bool.{true, false}
 use mathlib.Core.List.{List, [], ◌∷◌, ◌++◌}
@@ -16,18 +19,15 @@ use Rattle.desk.specs.Folder.{IsFolderHeld}
 use Rattle.desk.specs.Open.{Opens}
 use Rattle.desk.specs.declared.AfterOpen.{AfterOpen}
 use Rattle.desk.specs.declared.Desk.{Desk}
-use Rattle.desk.specs.declared.Opening.TheVariants.{Opened}
 use Rattle.nights.specs.Night.{Call as DeskCall, asks, after as desk_after}
 use Rattle.lanes.specs.Lanes.{TheirLane, lane_at, waiting_at, queue_in, own_lane}
 use Rattle.lanes.specs.Grant.{grant_refusal, next_place, Grants}
 use Rattle.lanes.specs.declared.AfterGrant.{AfterGrant}
 use Rattle.lanes.specs.declared.Fault.{Fault}
-use Rattle.lanes.specs.declared.Granting.TheVariants.{Granted, TakenOut, Refused as NotGranted}
-use Rattle.lanes.specs.declared.Joining.TheVariants.{Joined, Refused as NotJoined}
+use Rattle.lanes.specs.declared.Turn.TheVariants.{Granted, TakenOut}
 use Rattle.lanes.specs.declared.Lanes.{Lanes}
 use Rattle.lanes.specs.declared.Lane.{Lane}
 use Rattle.lanes.specs.declared.Waiting.{Waiting}
-use Rattle.lanes.specs.declared.Withdrawing.TheVariants.{Done, Refused as NotDone}
 use Rattle.turns.specs.Turns.{Hall, Call, joins, grants, withdraws, at_desk, after, all_after, reaches, all_reach, Orderly}
 use Rattle.turns.specs.Queue.{Event, joined, opened, taken_out, withdrew, nothing, less, waiting_of, Kept, Right, InTurn}
 use Rattle.turns.specs.Queue.{event_of, all_answered, saw_joining, saw_granting, saw_withdrawing, number_of, joined_by, opened_for, taken_from, withdrawn_by}
@@ -110,15 +110,15 @@ counts_plainly hall asked bytes job at call = (refl, refl, refl)
 pub opened_by_plainly : {desk : Desk} {clock : ℕ} {room : List ℕ} {w : Waiting} {r : AfterGrant} {room' : List ℕ} → OpenedBy desk clock room w r room'
     → (address : ℕ)
     × (n : ℕ)
-    × (r.answer ≡ Granted w.asked.job address n)
+    × (r.answer ≡ Ok (Granted w.asked.job address n))
     × ((o : AfterOpen)
     × Opens desk w.asked (take (w.size % 241) w.bytes) clock room o room'
-    × (o.answer ≡ Opened address n)
+    × (o.answer ≡ opening address n)
     × (r.desk ≡ o.desk))
 opened_by_plainly b = (b.address, b.n, b.told, (b.at_desk_lem, b.opens, b.answered, b.next))
 
 pub taken_by_plainly : {desk : Desk} {room : List ℕ} {w : Waiting} {r : AfterGrant} {room' : List ℕ} → TakenOutBy desk room w r room'
-    → (r.answer ≡ TakenOut w.asked.job) × IsFolderHeld desk w.asked × (r.count ≡ 0) × (r.desk ≡ desk) × (room' ≡ room)
+    → (r.answer ≡ Ok (TakenOut w.asked.job)) × IsFolderHeld desk w.asked × (r.count ≡ 0) × (r.desk ≡ desk) × (room' ≡ room)
 taken_by_plainly b = (b.told, b.held, b.considered_none, b.desk_kept, b.room_kept)
 
 pub ended_plainly : {hall : Hall} {calls : List Call} {lane place : ℕ} {end : Fate} → Ended hall calls lane place end
@@ -159,9 +159,9 @@ fate_plainly hall c cs lane place f = (refl, refl, refl, refl)
 
 -- a grant counts exactly where it opened a request or took it out
 pub grant_counts : (hall : Hall) (clock : ℕ) (room : List ℕ) (r : AfterGrant) (room' : List ℕ) → Grants hall.lanes hall.desk clock room r room'
-    → ((job address n : ℕ) → r.answer ≡ Granted job address n → counts hall (grants clock room) ≡ true)
-    × ((job : ℕ) → r.answer ≡ TakenOut job → counts hall (grants clock room) ≡ true)
-    × ((f : Fault) → r.answer ≡ NotGranted f → counts hall (grants clock room) ≡ false)
+    → ((job address n : ℕ) → r.answer ≡ Ok (Granted job address n) → counts hall (grants clock room) ≡ true)
+    × ((job : ℕ) → r.answer ≡ Ok (TakenOut job) → counts hall (grants clock room) ≡ true)
+    × ((f : Fault) → r.answer ≡ Err f → counts hall (grants clock room) ≡ false)
 grant_counts hall clock room r room' g =
     let is = (grants_after hall clock room r room' g).2 in
     (λ job address n e. is ∙ rw e, λ job e. is ∙ rw e, λ f e. is ∙ rw e)
@@ -201,13 +201,13 @@ unfolding Kept
 kept_plainly lanes past kept = kept
 
 pub saw_plainly : (asked : Request) (bytes : List ℕ) (lane at job address n clock : ℕ) (w : Waiting) (f : Fault)
-    → (saw_joining (Joined lane at) asked bytes ≡ joined asked bytes)
-    × (saw_joining (NotJoined f) asked bytes ≡ nothing)
-    × (saw_granting (Granted job address n) w clock ≡ opened w.asked (take (w.size % 241) w.bytes) address clock)
-    × (saw_granting (TakenOut job) w clock ≡ taken_out w.asked (take (w.size % 241) w.bytes))
-    × (saw_granting (NotGranted f) w clock ≡ nothing)
-    × (saw_withdrawing Done job at ≡ withdrew job at)
-    × (saw_withdrawing (NotDone f) job at ≡ nothing)
+    → (saw_joining (joining lane at) asked bytes ≡ joined asked bytes)
+    × (saw_joining (Err f) asked bytes ≡ nothing)
+    × (saw_granting (Ok (Granted job address n)) w clock ≡ opened w.asked (take (w.size % 241) w.bytes) address clock)
+    × (saw_granting (Ok (TakenOut job)) w clock ≡ taken_out w.asked (take (w.size % 241) w.bytes))
+    × (saw_granting (Err f) w clock ≡ nothing)
+    × (saw_withdrawing (Ok tt) job at ≡ withdrew job at)
+    × (saw_withdrawing (Err f) job at ≡ nothing)
 saw_plainly asked bytes lane at job address n clock w f = (refl, refl, refl, refl, refl, refl, refl)
 
 -- how many requests of a job joined, were opened, were taken out and were withdrawn
@@ -299,7 +299,7 @@ pub granted_at_plainly : {lanes : Lanes} {desk : Desk} {clock : ℕ} {room : Lis
     × (job ≡ w.asked.job)
     × ((o : AfterOpen)
     × Opens desk w.asked (take (w.size % 241) w.bytes) clock room o room'
-    × (o.answer ≡ Opened address n)
+    × (o.answer ≡ opening address n)
     × (r.desk ≡ o.desk))
 granted_at_plainly g = (g.request, g.turn, g.job_is, (g.at_desk_lem, g.opens, g.answered, g.desk_next))
 

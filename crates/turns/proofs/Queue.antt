@@ -1,5 +1,6 @@
 -- What waits in the lanes is what the callers saw join, less what was opened, taken out and withdrawn.
 -- Assumes nothing.
+use Rattle.std.specs.Prelude.{Ok, Err}
 use mathlib.Core.Path.{◌≡◌, refl, sym, ap, subst, ◌∙◌}
 use mathlib.Core.Bool.{Bool, true, false, cond}
 use mathlib.Core.List.{List, [], ◌∷◌, ◌++◌}
@@ -14,8 +15,7 @@ use lib.ListN.{length, get_or, take, length-set}
 use lib.Seq.{take-suc-set, length-take-le}
 use Rattle.first.proofs.Laws.{first-same, first-none}
 use Rattle.rows.proofs.Laws.{told_false}
-use Rattle.desk.specs.declared.Opening.{Opening}
-use Rattle.desk.specs.declared.Opening.TheVariants.{Opened, Refused as NotOpened}
+use Rattle.desk.specs.Answers.{Opening}
 use Rattle.request.specs.declared.Request.{Request}
 use Rattle.lanes.proofs.Ranking.{decides_theirs, own_is, is_own}
 use Rattle.lanes.specs.Lanes.{no_request, fresh_lanes, Empty, Belongs, is_theirs, lane_at, waiting_at, waiting_with, data_of, queue_in, with_last, without, own_lane}
@@ -261,10 +261,10 @@ module _ (lanes : Lanes) (past : List Event) (o : Orderly lanes) (k : ℕ) (h : 
 grant_goes : (hall : Hall) (past : List Event) (clock : ℕ) (room : List ℕ) → Orderly hall.lanes → grant_refusal hall.lanes (length room) ≡ none → (a : Opening)
     → Goes hall.lanes past (of_opening a (oldest hall.lanes) clock)
     (served_from hall.lanes (next_place hall.lanes) (lane_at hall.lanes (next_place hall.lanes)) (moves_on a))
-grant_goes hall past clock room o e (Opened address n) =
+grant_goes hall past clock room o e (Ok told) =
     let fit = fit_to_grant hall.lanes (length room) e in
-    opened_goes hall.lanes past o (next_place hall.lanes) fit.2 fit.3 address clock
-grant_goes hall past clock room o e (NotOpened f) = by (takes_out f)
+    opened_goes hall.lanes past o (next_place hall.lanes) fit.2 fit.3 told.address clock
+grant_goes hall past clock room o e (Err f) = by (takes_out f)
   where
     by : (out : Bool)
         → Goes hall.lanes past (cond out (taken_out (oldest hall.lanes).asked (data_of (oldest hall.lanes))) nothing)

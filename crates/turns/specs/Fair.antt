@@ -1,19 +1,19 @@
 -- "A request that is p-th in its lane, and isn't withdrawn, must be opened within 16 times p grants that open something, whatever other lanes
 -- do." 02, #109; "#109's promise now reads "opened or taken out"": #110.
 -- Assumes nothing.
-use Rattle.std.specs.Prelude.{◌≡◌, Bool, false, cond, List, [], ◌∷◌, ◌++◌, ℕ, zero, suc, ◌+◌, ◌-◌, eqb, ltb, length}
+use Rattle.desk.specs.Answers.{opening}
+use Rattle.std.specs.Prelude.{◌≡◌, Bool, false, cond, List, [], ◌∷◌, ◌++◌, ℕ, zero, suc, ◌+◌, ◌-◌, eqb, ltb, length, Ok}
 use Rattle.std.proofs.Math.Option.{Option, some, none}
 use Rattle.desk.specs.Folder.{IsFolderHeld}
 use Rattle.desk.specs.Open.{Opens}
 use Rattle.desk.specs.declared.AfterOpen.{AfterOpen}
 use Rattle.desk.specs.declared.Desk.{Desk}
-use Rattle.desk.specs.declared.Opening.TheVariants.{Opened}
 use Rattle.lanes.specs.Lanes.{data_of, own_lane}
 use Rattle.lanes.specs.Grant.{grant_refusal, next_place, moves_on}
 use Rattle.lanes.specs.Withdraw.{withdraw_refusal}
 use Rattle.lanes.specs.declared.AfterGrant.{AfterGrant}
 use Rattle.lanes.specs.declared.Fault.{Fault}
-use Rattle.lanes.specs.declared.Granting.TheVariants.{Granted, TakenOut}
+use Rattle.lanes.specs.declared.Turn.TheVariants.{Granted, TakenOut}
 use Rattle.lanes.specs.declared.Waiting.{Waiting}
 use Rattle.turns.specs.Turns.{Hall, Call, joins, grants, withdraws, at_desk, after, all_after, oldest, opened_with}
 
@@ -77,15 +77,15 @@ fate hall (c ∷ cs) lane withdrawn = withdrawn
 pub record OpenedBy (desk : Desk) (clock : ℕ) (room : List ℕ) (w : Waiting) (r : AfterGrant) (room' : List ℕ) : Type 0 where
   pub address : ℕ
   pub n : ℕ
-  pub told : r.answer ≡ Granted w.asked.job address n
+  pub told : r.answer ≡ Ok (Granted w.asked.job address n)
   pub at_desk_lem : AfterOpen
   pub opens : Opens desk w.asked (data_of w) clock room at_desk_lem room'
-  pub answered : at_desk_lem.answer ≡ Opened address n
+  pub answered : at_desk_lem.answer ≡ opening address n
   pub next : r.desk ≡ at_desk_lem.desk
 
 -- a grant took this request out, because an open ticket of another job held its folder, and answered its job; desk and buffer are as before
 pub record TakenOutBy (desk : Desk) (room : List ℕ) (w : Waiting) (r : AfterGrant) (room' : List ℕ) : Type 0 where
-  pub told : r.answer ≡ TakenOut w.asked.job
+  pub told : r.answer ≡ Ok (TakenOut w.asked.job)
   pub held : IsFolderHeld desk w.asked
   pub considered_none : r.count ≡ 0
   pub desk_kept : r.desk ≡ desk

@@ -1,12 +1,12 @@
 -- What a call on the lanes that was not refused did, in the request's sentences: for the laws that callers cite. 02, #109.
 -- Assumes nothing.
+use Rattle.desk.specs.Answers.{opening}
 use Rattle.std.specs.Prelude.{◌≡◌, List, [], ◌∷◌, ◌++◌, ◌≢◌, ◌⊎◌, ℕ, ◌+◌, ◌-◌, ◌%◌, ◌≤◌, ◌<◌, length}
 use Rattle.request.specs.declared.Request.{Request}
 use Rattle.desk.specs.Folder.{IsFolderHeld}
 use Rattle.desk.specs.Open.{Opens}
 use Rattle.desk.specs.declared.AfterOpen.{AfterOpen}
 use Rattle.desk.specs.declared.Desk.{Desk}
-use Rattle.desk.specs.declared.Opening.TheVariants.{Opened}
 use Rattle.lanes.specs.Lanes.{Empty, Belongs, TheirLane, lane_at, waiting_with, data_of, queue_in}
 use Rattle.lanes.specs.declared.AfterGrant.{AfterGrant}
 use Rattle.lanes.specs.declared.Lanes.{Lanes}
@@ -45,7 +45,7 @@ pub record GrantedAt (lanes : Lanes) (desk : Desk) (clock : ℕ) (room : List �
   pub job_is : job ≡ request.asked.job
   pub at_desk_lem : AfterOpen
   pub opens : Opens desk request.asked (data_of request) clock room at_desk_lem room'
-  pub answered : at_desk_lem.answer ≡ Opened address n
+  pub answered : at_desk_lem.answer ≡ opening address n
   pub desk_next : r.desk ≡ at_desk_lem.desk
 
 -- 02, #110: or it was taken out, because an open ticket of another job held its folder; the desk and the buffer are as before

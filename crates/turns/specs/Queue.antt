@@ -1,9 +1,8 @@
 -- What waits, by what the callers saw: "in order of arrival", "each is opened at most once, as it was asked, data included". 02, #109.
 -- Assumes nothing.
-use Rattle.std.specs.Prelude.{◌≡◌, Bool, false, cond, List, [], ◌∷◌, ◌++◌, ℕ, zero, suc, ◌-◌, ◌≤◌, eqb, length}
+use Rattle.std.specs.Prelude.{◌≡◌, Bool, false, cond, List, [], ◌∷◌, ◌++◌, ℕ, zero, suc, ◌-◌, ◌≤◌, eqb, length, Ok, Err}
 use Rattle.std.proofs.Math.Option.{Option, some, none}
-use Rattle.desk.specs.declared.Opening.{Opening}
-use Rattle.desk.specs.declared.Opening.TheVariants.{Opened, Refused as NotOpened}
+use Rattle.desk.specs.Answers.{Opening}
 use Rattle.request.specs.Request.{ask_refusal}
 use Rattle.request.specs.declared.Request.{Request}
 use Rattle.lanes.specs.Lanes.{lane_at, waiting_with, data_of, queue_in, own_lane}
@@ -11,14 +10,12 @@ use Rattle.lanes.specs.Join.{join_refusal}
 use Rattle.lanes.specs.Grant.{grant_refusal, takes_out}
 use Rattle.lanes.specs.Withdraw.{withdraw_refusal}
 use Rattle.lanes.specs.declared.Fault.{Fault}
-use Rattle.lanes.specs.declared.Granting.{Granting}
-use Rattle.lanes.specs.declared.Granting.TheVariants.{Granted, TakenOut, Refused as NotGranted}
-use Rattle.lanes.specs.declared.Joining.{Joining}
-use Rattle.lanes.specs.declared.Joining.TheVariants.{Joined, Refused as NotJoined}
+use Rattle.lanes.specs.Answers.{Granting}
+use Rattle.lanes.specs.declared.Turn.TheVariants.{Granted, TakenOut}
+use Rattle.lanes.specs.Answers.{Joining}
 use Rattle.lanes.specs.declared.Lanes.{Lanes}
 use Rattle.lanes.specs.declared.Waiting.{Waiting}
-use Rattle.lanes.specs.declared.Withdrawing.{Withdrawing}
-use Rattle.lanes.specs.declared.Withdrawing.TheVariants.{Done, Refused as NotDone}
+use Rattle.lanes.specs.Answers.{Withdrawing}
 use Rattle.turns.specs.Turns.{Hall, Call, joins, grants, withdraws, at_desk, after, oldest, opened_with, Orderly}
 
 -- what the callers saw: a request that joined, with its data; that a grant opened one of a job's under an address, or took it out; or that a
@@ -36,8 +33,8 @@ of_join (some f) asked bytes = nothing
 of_join none asked bytes = joined asked bytes
 
 abbrev pub of_opening : Opening → Waiting → ℕ → Event
-of_opening (Opened address n) w clock = opened w.asked (data_of w) address clock
-of_opening (NotOpened f) w clock = cond (takes_out f) (taken_out w.asked (data_of w)) nothing
+of_opening (Ok told) w clock = opened w.asked (data_of w) told.address clock
+of_opening (Err f) w clock = cond (takes_out f) (taken_out w.asked (data_of w)) nothing
 
 abbrev pub of_grant : Option Fault → Hall → ℕ → List ℕ → Event
 of_grant (some f) hall clock room = nothing
@@ -55,17 +52,17 @@ event_of hall (at_desk call) = nothing
 
 -- the same by what the calls answer
 abbrev pub saw_joining : Joining → Request → List ℕ → Event
-saw_joining (Joined lane at) asked bytes = joined asked bytes
-saw_joining (NotJoined f) asked bytes = nothing
+saw_joining (Ok told) asked bytes = joined asked bytes
+saw_joining (Err f) asked bytes = nothing
 
 abbrev pub saw_granting : Granting → Waiting → ℕ → Event
-saw_granting (Granted job address n) w clock = opened w.asked (data_of w) address clock
-saw_granting (TakenOut job) w clock = taken_out w.asked (data_of w)
-saw_granting (NotGranted f) w clock = nothing
+saw_granting (Ok (Granted job address n)) w clock = opened w.asked (data_of w) address clock
+saw_granting (Ok (TakenOut job)) w clock = taken_out w.asked (data_of w)
+saw_granting (Err f) w clock = nothing
 
 abbrev pub saw_withdrawing : Withdrawing → ℕ → ℕ → Event
-saw_withdrawing Done job at = withdrew job at
-saw_withdrawing (NotDone f) job at = nothing
+saw_withdrawing (Ok _) job at = withdrew job at
+saw_withdrawing (Err f) job at = nothing
 
 -- the latest first
 unfoldable pub all_answered : Hall → List Event → List Call → List Event

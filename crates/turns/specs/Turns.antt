@@ -6,7 +6,7 @@ use Rattle.request.specs.Request.{ask_refusal}
 use Rattle.request.specs.declared.Request.{Request}
 use Rattle.desk.specs.Open.{given_place, request_at, open_refusal, open_answer}
 use Rattle.desk.specs.declared.Desk.{Desk}
-use Rattle.desk.specs.declared.Opening.{Opening}
+use Rattle.desk.specs.Answers.{Opening}
 use Rattle.nights.specs.Night.{asks}
 use Rattle.nights.specs.Night.{Call as DeskCall, after as desk_after}
 use Rattle.lanes.specs.Lanes.{Empty, lane_at, waiting_at, waiting_with, data_of, own_lane}

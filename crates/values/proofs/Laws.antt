@@ -1,5 +1,6 @@
 -- What is promised of register values: the laws that callers may cite.
 -- Assumes nothing.
+use Rattle.std.specs.Prelude.{Ok}
 use mathlib.Core.Path.{◌≡◌, refl, sym, ap, ◌∙◌, subst}
 use mathlib.Core.Bool.{Bool, true, false}
 use mathlib.Core.List.{List, [], ◌∷◌, ◌++◌}
@@ -26,16 +27,14 @@ use Rattle.values.specs.Values.{read_refusal, read_answer, read_told, read_value
 use Rattle.values.specs.Values.{set_bits, clear_bits, toggle_bits, bit_at, weighed, Numbers, Sizes, Loads, Stores, Keeps, Reads, Writes, Sets, Clears, Toggles, TestsBit}
 use Rattle.values.specs.declared.Value.{Value}
 use Rattle.values.specs.declared.Fault.{Fault}
-use Rattle.values.specs.declared.Stored.{Stored}
-use Rattle.values.specs.declared.Reading.{Reading}
-use Rattle.values.specs.declared.Writing.{Writing}
+use Rattle.values.specs.Answers.{Stored}
+use Rattle.values.specs.Answers.{Reading}
+use Rattle.values.specs.Answers.{Writing}
 use Rattle.values.proofs.Bytes.{natural_lt, bytes_element, length_element, element_lt, length-bytes_of, bytes_bytes_of, natural_bytes_of, bytes_of_natural, byte_at}
 use Rattle.values.proofs.Sized.{size_of_kind, stored_back, value_back, value_low, value_high, kind_positive}
 use Rattle.values.proofs.Bits.{run, byte_run, not_run, or_one, and_one, xor_one}
 use Rattle.values.proofs.Refusals.{decides_kind, decides_length, decides_fits, stored_none, stored_so, read_none, read_same_length, read_is, write_is}
 use Rattle.values.proofs.Ends.{decides_within}
-use Rattle.values.specs.declared.Reading.TheVariants as reading
-use Rattle.values.specs.declared.Writing.TheVariants as writing
 
 -- ---- "Each is given exactly when its condition holds and no earlier one does."
 
@@ -177,15 +176,15 @@ stored_means kind value s =
 
 -- the value of whatever bytes stand at the element
 pub reads_element : (kind : ℕ) (value : Value) (bytes : List ℕ) (element : ℕ) → stored_refusal kind value ≡ none → read_refusal kind bytes element ≡ none
-    → element_of (size_of kind) bytes element ≡ bytes_of (size_of kind) (stored_at (size_of kind) value) → read_value kind bytes element ≡ reading.Is value
+    → element_of (size_of kind) bytes element ≡ bytes_of (size_of kind) (stored_at (size_of kind) value) → read_value kind bytes element ≡ Ok value
 unfolding read_value
 reads_element kind value bytes element s r e =
     let means = stored_means kind value s in
-    rw (r, e, natural_bytes_of (size_of kind) (stored_at (size_of kind) value) means.0) (ap reading.Is means.1)
+    rw (r, e, natural_bytes_of (size_of kind) (stored_at (size_of kind) value) means.0) (ap Ok means.1)
 
 -- bytes that are one element
 pub reads_whole : (kind : ℕ) (bytes : List ℕ) → 1 ≤ kind → kind ≤ 7 → length bytes ≡ size_of kind
-    → read_value kind bytes 0 ≡ reading.Is (value_at (is_signed kind) (size_of kind) (natural bytes))
+    → read_value kind bytes 0 ≡ Ok (value_at (is_signed kind) (size_of kind) (natural bytes))
 unfolding read_value read_rows NoKind BadLength NoElement element_of
 reads_whole kind bytes low high many =
     let some : 1 ≤ size_of kind = (size_of_kind kind low high).0 in
@@ -199,12 +198,12 @@ reads_whole kind bytes low high many =
 
 -- so what a kind keeps of a value is read as that value
 pub stored_reads : (kind : ℕ) (value : Value) → stored_refusal kind value ≡ none
-    → read_value kind (bytes_of (size_of kind) (stored_at (size_of kind) value)) 0 ≡ reading.Is value
+    → read_value kind (bytes_of (size_of kind) (stored_at (size_of kind) value)) 0 ≡ Ok value
 stored_reads kind value s =
     let means = stored_means kind value s in
     let range = (decides_kind kind).so (stored_none kind value s).0 in
     reads_whole kind _ range.0 range.1 (length-bytes_of (size_of kind) (stored_at (size_of kind) value))
-    ∙ ap reading.Is (ap (value_at (is_signed kind) (size_of kind)) (natural_bytes_of (size_of kind) _ means.0) ∙ means.1)
+    ∙ ap Ok (ap (value_at (is_signed kind) (size_of kind)) (natural_bytes_of (size_of kind) _ means.0) ∙ means.1)
 
 -- what is laid over the bytes of an element is that element
 pub element_laid : (size : ℕ) (xs bytes : List ℕ) (element : ℕ) → length xs ≡ size → (element + 1) * size ≤ length bytes
@@ -221,7 +220,7 @@ element_laid size xs bytes element many within =
 
 -- so a value that is stored at an element of an array, wherever the array lies in the lent bytes, is what is read there
 pub laid_reads : (kind : ℕ) (value : Value) (bytes : List ℕ) (element : ℕ) → stored_refusal kind value ≡ none → read_refusal kind bytes element ≡ none
-    → read_value kind (over_at (element * size_of kind) (bytes_of (size_of kind) (stored_at (size_of kind) value)) bytes) element ≡ reading.Is value
+    → read_value kind (over_at (element * size_of kind) (bytes_of (size_of kind) (stored_at (size_of kind) value)) bytes) element ≡ Ok value
 laid_reads kind value bytes element s r =
     reads_element kind value (over_at (element * size_of kind) xs bytes) element s (read_same_length kind _ bytes element (length-over_at _ _ _) r)
     (element_laid (size_of kind) xs bytes element (length-bytes_of _ _) (read_none kind bytes element r).1)
@@ -231,15 +230,15 @@ laid_reads kind value bytes element s r =
 
 -- of the calls: what `write` put into a buffer, `read` finds wherever those bytes are an element
 pub written_reads : (kind : ℕ) (value : Value) (room room' bytes : List ℕ) (element : ℕ) {r : Reading}
-    → Writes kind value room writing.Done room' → read_refusal kind bytes element ≡ none
-    → element_of (size_of kind) bytes element ≡ take (size_of kind) room' → Reads kind bytes element r → r ≡ reading.Is value
+    → Writes kind value room (Ok tt) room' → read_refusal kind bytes element ≡ none
+    → element_of (size_of kind) bytes element ≡ take (size_of kind) room' → Reads kind bytes element r → r ≡ Ok value
 written_reads kind value room room' bytes element w found e r =
     let done = write_is kind value room room' w in
     r ∙ reads_element kind value bytes element done.0 found (e ∙ done.1)
 
 -- ---- read bytes written again are the same bytes
 
-pub element_stored : (kind : ℕ) (value : Value) (bytes : List ℕ) (element : ℕ) → Bytes bytes → read_value kind bytes element ≡ reading.Is value
+pub element_stored : (kind : ℕ) (value : Value) (bytes : List ℕ) (element : ℕ) → Bytes bytes → read_value kind bytes element ≡ Ok value
     → (stored_refusal kind value ≡ none) × (bytes_of (size_of kind) (stored_at (size_of kind) value) ≡ element_of (size_of kind) bytes element)
 element_stored kind value bytes element each e = (
   stored_so kind value found.0 (rw is.1 back.0),
@@ -268,7 +267,7 @@ element_stored kind value bytes element each e = (
 
 -- of the calls: `write` of what `read` answered puts the element's bytes back
 pub read_writes : (kind : ℕ) (value : Value) (bytes : List ℕ) (element : ℕ) (room room' : List ℕ) → Bytes bytes
-    → Reads kind bytes element (reading.Is value) → Writes kind value room writing.Done room'
+    → Reads kind bytes element (Ok value) → Writes kind value room (Ok tt) room'
     → take (size_of kind) room' ≡ element_of (size_of kind) bytes element
 read_writes kind value bytes element room room' each r w =
     (write_is kind value room room' w).1 ∙ (element_stored kind value bytes element each (sym r)).1

@@ -1,5 +1,6 @@
 -- What decides each row, what an answer tells of its refusal, and what a refusal leaves.
 -- Assumes nothing.
+use Rattle.std.specs.Prelude.{Ok, Err}
 use mathlib.Core.Path.{◌≡◌, refl, sym, ap, ap₂, ◌∙◌}
 use mathlib.Core.Bool.{Bool, true, false, cond, not, ◌||◌, true≢false}
 use mathlib.Core.List.{List}
@@ -22,9 +23,6 @@ use Rattle.values.specs.declared.Fault.{Fault}
 use Rattle.values.specs.declared.Fault.TheVariants.{UnknownKind, DoesNotFit, ShortBuffer}
 use Rattle.values.proofs.Bytes.{length-bytes_of}
 use Rattle.values.proofs.Sized.{positive, size_of_kind, kind_of_size}
-use Rattle.values.specs.declared.Reading.TheVariants as reading
-use Rattle.values.specs.declared.Stored.TheVariants as stored
-use Rattle.values.specs.declared.Writing.TheVariants as writing
 
 -- ---- the tests decide the rows
 
@@ -102,29 +100,29 @@ stored_so kind value k h = rw (k, decided (fits kind value) (decides_fits kind v
 
 -- ---- what an answer tells
 
-pub read_is : (kind : ℕ) (bytes : List ℕ) (element : ℕ) (value : Value) → read_value kind bytes element ≡ reading.Is value
+pub read_is : (kind : ℕ) (bytes : List ℕ) (element : ℕ) (value : Value) → read_value kind bytes element ≡ Ok value
     → (read_refusal kind bytes element ≡ none) × (value ≡ value_at (is_signed kind) (size_of kind) (natural (element_of (size_of kind) bytes element)))
 unfolding read_value
 read_is kind bytes element value = by_refusal (read_refusal kind bytes element)
   where
-    by_refusal : (o : Option Fault) {v : Value} → read_answer o v ≡ reading.Is value → (o ≡ none) × (value ≡ v)
+    by_refusal : (o : Option Fault) {v : Value} → read_answer o v ≡ Ok value → (o ≡ none) × (value ≡ v)
     by_refusal none e = (refl, cc)
     by_refusal (some f) e = clash (cc)
 
-pub stored_as : (kind : ℕ) (value : Value) (n : ℕ) → stored_value kind value ≡ stored.As n
+pub stored_as : (kind : ℕ) (value : Value) (n : ℕ) → stored_value kind value ≡ Ok n
     → (stored_refusal kind value ≡ none) × (n ≡ stored_at (size_of kind) value)
 unfolding stored_value
 stored_as kind value n = by_refusal (stored_refusal kind value)
   where
-    by_refusal : (o : Option Fault) {v : ℕ} → stored_answer o v ≡ stored.As n → (o ≡ none) × (n ≡ v)
+    by_refusal : (o : Option Fault) {v : ℕ} → stored_answer o v ≡ Ok n → (o ≡ none) × (n ≡ v)
     by_refusal none e = (refl, cc)
     by_refusal (some f) e = clash (cc)
 
-pub stored_refused : (kind : ℕ) (value : Value) (f : Fault) → stored_value kind value ≡ stored.Refused f → stored_refusal kind value ≡ some f
+pub stored_refused : (kind : ℕ) (value : Value) (f : Fault) → stored_value kind value ≡ Err f → stored_refusal kind value ≡ some f
 unfolding stored_value
 stored_refused kind value f = by_refusal (stored_refusal kind value)
   where
-    by_refusal : (o : Option Fault) → stored_answer o (stored_at (size_of kind) value) ≡ stored.Refused f → o ≡ some f
+    by_refusal : (o : Option Fault) → stored_answer o (stored_at (size_of kind) value) ≡ Err f → o ≡ some f
     by_refusal none e = clash (cc)
     by_refusal (some g) e = cc
 
@@ -152,17 +150,17 @@ write_room kind value room e =
 
 -- a refusal leaves the buffer as it was
 pub write_refused : (kind : ℕ) (value : Value) (room : List ℕ) (f : Fault) → write_refusal kind value (length room) ≡ some f
-    → Writes kind value room (writing.Refused f) room
+    → Writes kind value room (Err f) room
 unfolding room_after
 write_refused kind value room f e = (rw e, rw e)
 
 pub write_done : (kind : ℕ) (value : Value) (room room' : List ℕ) → write_refusal kind value (length room) ≡ none
-    → room' ≡ over (bytes_of (size_of kind) (stored_at (size_of kind) value)) room → Writes kind value room writing.Done room'
+    → room' ≡ over (bytes_of (size_of kind) (stored_at (size_of kind) value)) room → Writes kind value room (Ok tt) room'
 unfolding room_after
 write_done kind value room room' e laid = (rw e, rw e laid)
 
 -- what was written stands in the first bytes
-pub write_is : (kind : ℕ) (value : Value) (room room' : List ℕ) → Writes kind value room writing.Done room'
+pub write_is : (kind : ℕ) (value : Value) (room room' : List ℕ) → Writes kind value room (Ok tt) room'
     → (stored_refusal kind value ≡ none) × (take (size_of kind) room' ≡ bytes_of (size_of kind) (stored_at (size_of kind) value))
 unfolding stored_refusal write_refusal room_after
 write_is kind value room room' w =
@@ -175,7 +173,7 @@ write_is kind value room room' w =
           (w.1 ∙ ap (λ (o : Option Fault). room_after o (bytes_of (size_of kind) (stored_at (size_of kind) value)) room) no),
     )
   where
-    by_refusal : (o : Option Fault) → writing.Done ≡ write_answer o → o ≡ none
+    by_refusal : (o : Option Fault) → Ok tt ≡ write_answer o → o ≡ none
     by_refusal none e = refl
     by_refusal (some f) e = clash (cc)
 

@@ -1,6 +1,6 @@
 -- Register values: the seven kinds, what a register's bytes mean, when a value is refused, and what a mask does to stored bytes.
 -- Assumes nothing.
-use Rattle.std.specs.Prelude.{◌≡◌, ◌⊎◌, Bool, true, false, cond, not, ◌||◌, ◌&&◌, List, [], ◌∷◌, ℕ, zero, suc, ◌+◌, ◌-◌, ◌*◌, ◌/◌, ◌%◌, ◌^◌, ◌≤◌, ◌<◌, eqb, leb, ltb, ℤ, pos, negsuc, neg_ℤ, length, get_or, take, drop, ◌≤ℤ◌}
+use Rattle.std.specs.Prelude.{◌≡◌, ◌⊎◌, Bool, true, false, cond, not, ◌||◌, ◌&&◌, List, [], ◌∷◌, ℕ, zero, suc, ◌+◌, ◌-◌, ◌*◌, ◌/◌, ◌%◌, ◌^◌, ◌≤◌, ◌<◌, eqb, leb, ltb, ℤ, pos, negsuc, neg_ℤ, length, get_or, take, drop, ◌≤ℤ◌, Ok, Err}
 use Rattle.std.proofs.Math.Option.{Option, some, none}
 use Rattle.std.specs.Int.Bits.{bit_and, bit_or, bit_xor}
 use Rattle.std.proofs.Math.IntN.{suc_ℤ, pred_ℤ}
@@ -10,12 +10,9 @@ use Rattle.values.specs.declared.Value.{Value}
 use Rattle.values.specs.declared.Value.TheVariants.{Natural, Negative}
 use Rattle.values.specs.declared.Fault.{Fault}
 use Rattle.values.specs.declared.Fault.TheVariants.{UnknownKind, WrongLength, NoSuchElement, DoesNotFit, ShortBuffer}
-use Rattle.values.specs.declared.Stored.{Stored}
-use Rattle.values.specs.declared.Stored.TheVariants as stored
-use Rattle.values.specs.declared.Reading.{Reading}
-use Rattle.values.specs.declared.Reading.TheVariants as reading
-use Rattle.values.specs.declared.Writing.{Writing}
-use Rattle.values.specs.declared.Writing.TheVariants as writing
+use Rattle.values.specs.Answers.{Stored}
+use Rattle.values.specs.Answers.{Reading}
+use Rattle.values.specs.Answers.{Writing}
 
 -- ---- "Kinds: 1 U8, 2 I8, 3 U16, 4 I16, 5 U32, 6 I32, 7 U64, sizes 1, 1, 2, 2, 4, 4, 8."
 
@@ -213,36 +210,36 @@ unfoldable pub element_of : ℕ → List ℕ → ℕ → List ℕ
 element_of size bytes element = take size (drop (element * size) bytes)
 
 abbrev pub read_answer : Option Fault → Value → Reading
-read_answer (some f) v = reading.Refused f
-read_answer none v = reading.Is v
+read_answer (some f) v = Err f
+read_answer none v = Ok v
 
 -- the number that an answer tells, or none
 abbrev pub read_told : Reading → Option ℕ
-read_told (reading.Refused f) = some (fault_number f)
-read_told (reading.Is v) = none
+read_told (Err f) = some (fault_number f)
+read_told (Ok v) = none
 
 unfoldable pub read_value : ℕ → List ℕ → ℕ → Reading
 read_value kind bytes element =
     read_answer (read_refusal kind bytes element) (value_at (is_signed kind) (size_of kind) (natural (element_of (size_of kind) bytes element)))
 
 abbrev pub stored_answer : Option Fault → ℕ → Stored
-stored_answer (some f) v = stored.Refused f
-stored_answer none v = stored.As v
+stored_answer (some f) v = Err f
+stored_answer none v = Ok v
 
 abbrev pub stored_told : Stored → Option ℕ
-stored_told (stored.Refused f) = some (fault_number f)
-stored_told (stored.As v) = none
+stored_told (Err f) = some (fault_number f)
+stored_told (Ok v) = none
 
 unfoldable pub stored_value : ℕ → Value → Stored
 stored_value kind value = stored_answer (stored_refusal kind value) (stored_at (size_of kind) value)
 
 abbrev pub write_answer : Option Fault → Writing
-write_answer (some f) = writing.Refused f
-write_answer none = writing.Done
+write_answer (some f) = Err f
+write_answer none = Ok tt
 
 abbrev pub write_told : Writing → Option ℕ
-write_told (writing.Refused f) = some (fault_number f)
-write_told writing.Done = none
+write_told (Err f) = some (fault_number f)
+write_told (Ok _) = none
 
 -- a refusal leaves every byte of the buffer; a written value takes its first bytes
 unfoldable pub room_after : Option Fault → List ℕ → List ℕ → List ℕ

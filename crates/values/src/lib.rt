@@ -25,25 +25,6 @@ pub enum Fault {
     ShortBuffer,
 }
 
-// The number whose lowest bytes a register of that kind holds, or the refusal.
-#[derive(Clone, Copy)]
-pub enum Stored {
-    As(u64),
-    Refused(Fault),
-}
-
-#[derive(Clone, Copy)]
-pub enum Reading {
-    Is(Value),
-    Refused(Fault),
-}
-
-#[derive(Clone, Copy)]
-pub enum Writing {
-    Done,
-    Refused(Fault),
-}
-
 // The paper's number of a refusal.
 pub fn number(fault: Fault) -> u8
     ensures { Numbers fault result }
@@ -147,64 +128,60 @@ fn highest(kind: u8) -> u64
 }
 
 // The number whose lowest bytes a register of that kind holds for this value.
-pub fn as_stored(kind: u8, value: Value) -> Stored
+pub fn as_stored(kind: u8, value: Value) -> Result<u64, Fault>
     ensures { Keeps kind value result }
 {
     if size(kind) == 0 {
-        return Stored::Refused(Fault::UnknownKind);
+        return Err(Fault::UnknownKind);
     }
     let top = highest(kind);
     match value {
         Value::Natural(number) => {
             if number <= top {
-                return Stored::As(number);
+                return Ok(number);
             }
         }
         Value::Negative(below) => {
             if signed(kind) && below <= top {
-                return Stored::As(top + 1 + (top - below));
+                return Ok(top + 1 + (top - below));
             }
         }
     }
-    Stored::Refused(Fault::DoesNotFit)
+    Err(Fault::DoesNotFit)
 }
 
 // The value of that kind at an element, counted from 0, of a register's bytes.
-pub fn read(kind: u8, bytes: &[u8], element: u64) -> Reading
+pub fn read(kind: u8, bytes: &[u8], element: u64) -> Result<Value, Fault>
     ensures { Reads kind bytes.now element result }
 {
     let n = size(kind);
     if n == 0 {
-        return Reading::Refused(Fault::UnknownKind);
+        return Err(Fault::UnknownKind);
     }
     let len = bytes.len();
     if len == 0 || len % n != 0 {
-        return Reading::Refused(Fault::WrongLength);
+        return Err(Fault::WrongLength);
     }
     let k = element as usize;
     if len / n <= k {
-        return Reading::Refused(Fault::NoSuchElement);
+        return Err(Fault::NoSuchElement);
     }
     let at = k * n;
     let number = load(&bytes[at..at + n]);
-    Reading::Is(value_at(signed(kind), n, number))
+    Ok(value_at(signed(kind), n, number))
 }
 
 // Puts the value's bytes over the room's first places. The rest stays, and of a refusal all.
-pub fn write(kind: u8, value: Value, room: &mut [u8]) -> Writing
+pub fn write(kind: u8, value: Value, room: &mut [u8]) -> Result<(), Fault>
     ensures { Writes kind value room.old result room.new }
 {
-    match as_stored(kind, value) {
-        Stored::Refused(fault) => Writing::Refused(fault),
-        Stored::As(number) => {
-            let n = size(kind);
-            if room.len() < n {
-                return Writing::Refused(Fault::ShortBuffer);
-            }
-            store(number, n, room);
-            Writing::Done
-        }
+    let number = as_stored(kind, value)?;
+    let n = size(kind);
+    if room.len() < n {
+        return Err(Fault::ShortBuffer);
     }
+    store(number, n, room);
+    Ok(())
 }
 
 // `v` with a one wherever the mask has one.

@@ -1,7 +1,8 @@
 // The calls `val.get`, `val.put` and `cat`. A part of the test tool `rehearsal`.
 #![tactic(auto)]
 
-use values::{Reading, Value, Writing};
+use catalogue::Entry;
+use values::{Fault, Value};
 use words::{Words, byte, count};
 
 // The call that the word last taken names.
@@ -32,10 +33,10 @@ fn get(w: Words, line: &[u8], out: &mut [u8]) -> usize {
     }
 }
 
-fn got(answer: Reading, out: &mut [u8]) -> usize {
+fn got(answer: Result<Value, Fault>, out: &mut [u8]) -> usize {
     match answer {
-        Reading::Refused(fault) => answers::refused(out, values::number(fault)),
-        Reading::Is(value) => {
+        Err(fault) => answers::refused(out, values::number(fault)),
+        Ok(value) => {
             let at = answers::ok(out);
             let next = answers::text(out, at, b" value=");
             say_value(value, out, next)
@@ -72,10 +73,10 @@ fn put_now(kind: u8, value: Value, room: &mut [u8], out: &mut [u8]) -> usize {
     answers::buffer(out, at, room)
 }
 
-fn was_put(answer: Writing, out: &mut [u8]) -> usize {
+fn was_put(answer: Result<(), Fault>, out: &mut [u8]) -> usize {
     match answer {
-        Writing::Refused(fault) => answers::refused(out, values::number(fault)),
-        Writing::Done => answers::ok(out),
+        Err(fault) => answers::refused(out, values::number(fault)),
+        Ok(()) => answers::ok(out),
     }
 }
 
@@ -101,21 +102,21 @@ fn cat(w: Words, line: &[u8], out: &mut [u8]) -> usize {
     }
 }
 
-fn found(answer: catalogue::Found, out: &mut [u8]) -> usize {
+fn found(answer: Result<Entry, catalogue::Fault>, out: &mut [u8]) -> usize {
     match answer {
-        catalogue::Found::Refused(fault) => answers::refused(out, catalogue::number(fault)),
-        catalogue::Found::Is(row) => entry(row, out),
+        Err(fault) => answers::refused(out, catalogue::number(fault)),
+        Ok(row) => entry(row, out),
     }
 }
 
-fn entry(row: catalogue::Entry, out: &mut [u8]) -> usize {
+fn entry(row: Entry, out: &mut [u8]) -> usize {
     let at = answers::ok(out);
     let next = kind_and_right(row, out, at);
     let last = answers::field(out, next, b" lo=", row.lowest);
     answers::field(out, last, b" hi=", row.highest)
 }
 
-fn kind_and_right(row: catalogue::Entry, out: &mut [u8], at: usize) -> usize {
+fn kind_and_right(row: Entry, out: &mut [u8], at: usize) -> usize {
     let next = answers::field(out, at, b" kind=", row.kind as u64);
     if row.writable {
         answers::field(out, next, b" write=", 1)

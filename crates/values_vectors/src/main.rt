@@ -11,7 +11,7 @@
 //     bit NUMBER PLACE
 #![tactic(auto)]
 
-use values::{Fault, Stored, Value};
+use values::{Fault, Value};
 use words::{Words, byte, count};
 
 const STDIN_FILENO: i32 = 0;
@@ -65,8 +65,8 @@ fn keep(w: Words, line: &[u8]) -> Words {
     let a = words::number(w, line, 255);
     let v = take_value(a, line);
     match values::as_stored(byte(a.value), value(v)) {
-        Stored::As(number) => say_number(number),
-        Stored::Refused(fault) => say_fault(fault),
+        Ok(number) => say_number(number),
+        Err(fault) => say_fault(fault),
     }
     v
 }

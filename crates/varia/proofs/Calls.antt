@@ -1,5 +1,6 @@
 -- What each function of the box needs of the definitions, over plain lists and numbers.
 -- Assumes nothing.
+use Rattle.std.specs.Prelude.{Some, None}
 use mathlib.Core.Path.{◌≡◌, sym, subst, ◌∙◌}
 use mathlib.Core.Bool.{Bool, true, false}
 use mathlib.Core.List.{List, [], ◌∷◌}
@@ -10,19 +11,15 @@ use borrow.Author.Tests.{lt-ltb, le-ltb, eq-eqb, ne_eqb}
 use Rattle.lent.specs.Lent.{over}
 use Rattle.desk.specs.Open.{Opens}
 use Rattle.desk.specs.declared.AfterOpen.{AfterOpen}
-use Rattle.desk.specs.declared.Booking.{Booking}
-use Rattle.desk.specs.declared.Booking.TheVariants.{Booked}
-use Rattle.desk.specs.declared.Closing.{Closing}
-use Rattle.desk.specs.declared.Closing.TheVariants.{Closed}
+use Rattle.desk.specs.Answers.{Booking, booking, closing}
+use Rattle.desk.specs.Answers.{Closing}
 use Rattle.desk.specs.declared.Desk.{Desk}
 use Rattle.request.specs.declared.Request.{Request}
 use Rattle.values.specs.Values.{bytes_of}
 use Rattle.varia.specs.Box.{edge_of, other, is_out, is_out_of_order, edge_refusal, attenuation_refusal, with_out, with_edge, heard_reply, heard_closing}
-use Rattle.varia.specs.declared.Edge.TheVariants.{Unknown, Known}
-use Rattle.varia.specs.declared.Edge.{Edge}
+use Rattle.varia.specs.Answers.{Edge, sent}
 use Rattle.varia.specs.declared.Fault.TheVariants.{EdgeOut, TooMuch, OutOfOrder}
 use Rattle.varia.specs.declared.FilterBox.{FilterBox}
-use Rattle.varia.specs.declared.Out.TheVariants as out
 use Rattle.varia.specs.declared.Pass.{Pass}
 
 -- ---- the box's own tests
@@ -59,21 +56,21 @@ asked_with desk clock room r room' made asked two v same laid opens =
 
 -- ---- what the box makes of an answer
 
-module _ (box : FilterBox) (at : ℕ) (pass : Pass) (tenths : ℕ) (out_is : box.out ≡ out.Edge at pass tenths) where
-  pub reply_elsewhere : (answer : Booking) (job address sort n folder : ℕ) → answer ≡ Booked job address sort n folder → at ≢ address → box ≡ heard_reply box answer
+module _ (box : FilterBox) (at : ℕ) (pass : Pass) (tenths : ℕ) (out_is : box.out ≡ sent at pass tenths) where
+  pub reply_elsewhere : (answer : Booking) (job address sort n folder : ℕ) → answer ≡ booking job address sort n folder → at ≢ address → box ≡ heard_reply box answer
   reply_elsewhere answer job address sort n folder is left = rw (is, out_is, ne_eqb at address left)
 
-  pub reply_acks : (answer : Booking) (job address sort n folder : ℕ) → answer ≡ Booked job address sort n folder → at ≡ address → sort ≡ 3
-      → with_edge box pass (Known tenths) ≡ heard_reply box answer
+  pub reply_acks : (answer : Booking) (job address sort n folder : ℕ) → answer ≡ booking job address sort n folder → at ≡ address → sort ≡ 3
+      → with_edge box pass (Some tenths) ≡ heard_reply box answer
   reply_acks answer job address sort n folder is taken ack = rw (is, out_is, eq-eqb at address taken, eq-eqb sort 3 ack)
 
-  pub reply_leaves : (answer : Booking) (job address sort n folder : ℕ) → answer ≡ Booked job address sort n folder → at ≡ address → sort ≢ 3
-      → with_out box out.Nothing ≡ heard_reply box answer
+  pub reply_leaves : (answer : Booking) (job address sort n folder : ℕ) → answer ≡ booking job address sort n folder → at ≡ address → sort ≢ 3
+      → with_out box None ≡ heard_reply box answer
   reply_leaves answer job address sort n folder is taken left = rw (is, out_is, eq-eqb at address taken, ne_eqb sort 3 left)
 
-  pub closing_elsewhere : (answer : Closing) (job address folder : ℕ) → answer ≡ Closed job address folder → at ≢ address → box ≡ heard_closing box answer
+  pub closing_elsewhere : (answer : Closing) (job address folder : ℕ) → answer ≡ closing job address folder → at ≢ address → box ≡ heard_closing box answer
   closing_elsewhere answer job address folder is left = rw (is, out_is, ne_eqb at address left)
 
-  pub closing_forgets : (answer : Closing) (job address folder : ℕ) → answer ≡ Closed job address folder → at ≡ address
-      → with_edge box pass Unknown ≡ heard_closing box answer
+  pub closing_forgets : (answer : Closing) (job address folder : ℕ) → answer ≡ closing job address folder → at ≡ address
+      → with_edge box pass None ≡ heard_closing box answer
   closing_forgets answer job address folder is taken = rw (is, out_is, eq-eqb at address taken)

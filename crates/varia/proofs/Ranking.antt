@@ -1,5 +1,6 @@
 -- 02, #104: each number exactly where its row holds and no earlier one, the box's "ahead of the desk's".
 -- Assumes nothing.
+use Rattle.std.specs.Prelude.{Ok, Err, Some, None}
 use mathlib.Core.Path.{◌≡◌, refl, sym, ap, ◌∙◌}
 use mathlib.Core.Bool.{Bool, true, false, cond, true≢false}
 use mathlib.Core.List.{List, [], ◌∷◌, ◌++◌}
@@ -16,8 +17,7 @@ use Rattle.desk.proofs.Ranking.{open_exactly}
 use Rattle.desk.specs.Desk.{fault_number as desk_number}
 use Rattle.desk.specs.Open.{open_rows, open_told, place_rows}
 use Rattle.desk.specs.declared.Desk.{Desk}
-use Rattle.desk.specs.declared.Opening.{Opening}
-use Rattle.desk.specs.declared.Opening.TheVariants.{Opened as OpenedAt, Refused as NotOpened}
+use Rattle.desk.specs.Answers.{Opening}
 use Rattle.request.specs.Request.{ask_rows}
 use Rattle.request.specs.declared.Request.{Request}
 use Rattle.values.specs.Values.{bytes_of}
@@ -26,33 +26,31 @@ use Rattle.varia.specs.Box.{edge_of, other, edge_register, attenuation_register,
 use Rattle.varia.specs.Box.{IsEdgeOut, IsTooMuch, IsOutOfOrder, edge_rows, attenuation_rows, is_out, is_out_of_order, edge_tests, attenuation_tests, edge_refusal, attenuation_refusal}
 use Rattle.varia.specs.Display.{IsNeither, display_rows, display_told, which_of, Displays}
 use Rattle.varia.specs.declared.AfterAsk.{AfterAsk}
-use Rattle.varia.specs.declared.Edge.{Edge}
-use Rattle.varia.specs.declared.Edge.TheVariants.{Unknown, Known}
+use Rattle.varia.specs.Answers.{Edge, sent}
 use Rattle.varia.specs.declared.Fault.{Fault}
 use Rattle.varia.specs.declared.FilterBox.{FilterBox}
-use Rattle.varia.specs.declared.Out.{Out}
-use Rattle.varia.specs.declared.Out.TheVariants as out
+use Rattle.varia.specs.Answers.{Out}
 use Rattle.varia.specs.declared.Pass.{Pass}
 use Rattle.varia.specs.declared.Pass.TheVariants.{Short, Long}
 
 -- ---- the box's own rows
 
-decides_out : (o : Out) → Decides (is_out o) ((address : ℕ) × (pass : Pass) × (tenths : ℕ) × (o ≡ out.Edge address pass tenths))
-decides_out out.Nothing = record { so = λ e. absurd (true≢false (sym e)); not_so = λ e h. let p = h.3 in clash (cc) }
-decides_out (out.Edge address pass tenths) = record { so = λ e. (address, pass, tenths, refl); not_so = λ e. absurd (true≢false e) }
+decides_out : (o : Out) → Decides (is_out o) ((address : ℕ) × (pass : Pass) × (tenths : ℕ) × (o ≡ sent address pass tenths))
+decides_out None = record { so = λ e. absurd (true≢false (sym e)); not_so = λ e h. let p = h.3 in clash (cc) }
+decides_out (Some was) = record { so = λ e. (was.address, was.pass, was.tenths, refl); not_so = λ e. absurd (true≢false e) }
 
-known_is : {a b : ℕ} → Known a ≡ Known b → a ≡ b
+known_is : {a b : ℕ} → Some a ≡ Some b → a ≡ b
 known_is e = cc
 
 decides_order : (pass : Pass) (tenths : ℕ) (edge : Edge)
-    → Decides (is_out_of_order pass tenths edge) ((there : ℕ) × (edge ≡ Known there) × (InOrder pass tenths there → ⊥))
-decides_order pass tenths Unknown = record { so = λ e. absurd (true≢false (sym e)); not_so = λ e h. let p = h.1 in clash (cc) }
-decides_order Short tenths (Known there) =
+    → Decides (is_out_of_order pass tenths edge) ((there : ℕ) × (edge ≡ Some there) × (InOrder pass tenths there → ⊥))
+decides_order pass tenths None = record { so = λ e. absurd (true≢false (sym e)); not_so = λ e h. let p = h.1 in clash (cc) }
+decides_order Short tenths (Some there) =
     record {
       so = λ e. (there, refl, λ less. let l = leb-true tenths there e in omega arith);
       not_so = λ e h. h.2 (let l = leb-false tenths there e in let same = known_is h.1 in omega arith);
     }
-decides_order Long tenths (Known there) =
+decides_order Long tenths (Some there) =
     record {
       so = λ e. (there, refl, λ less. let l = leb-true there tenths e in omega arith);
       not_so = λ e h. h.2 (let l = leb-false there tenths e in let same = known_is h.1 in omega arith);
@@ -76,8 +74,8 @@ told_ranked rs numbers none n = n.done.0 refl
 told_ranked rs numbers (some k) n = (n.each k).0 refl
 
 passed_told : (a : Opening) → ask_told (from_desk a) ≡ open_told a
-passed_told (OpenedAt address n) = refl
-passed_told (NotOpened f) = refl
+passed_told (Ok opened) = refl
+passed_told (Err f) = refl
 
 -- of any call of the box, by its own rows
 module _ (rows : List (Row Fault)) (next : Opening → FilterBox) (box : FilterBox) (desk : Desk) (asked : Request) (bytes : List ℕ) (clock : ℕ) (room : List ℕ)
@@ -121,8 +119,8 @@ module _ (box : FilterBox) (desk : Desk) (wait clock : ℕ) (room : List ℕ) (r
 
   pub set_short_plainly : (tenths : ℕ) → SetsEdge Short box desk tenths wait clock room r room'
       → Numbered
-      (row ((address : ℕ) × (which : Pass) × (value : ℕ) × (box.out ≡ out.Edge address which value)) 59
-      ∷ row ((there : ℕ) × (box.long ≡ Known there) × (there < tenths → ⊥)) 63
+      (row ((address : ℕ) × (which : Pass) × (value : ℕ) × (box.out ≡ sent address which value)) 59
+      ∷ row ((there : ℕ) × (box.long ≡ Some there) × (there < tenths → ⊥)) 63
       ∷ desk_rows (record { job = box.job; unit = box.unit; sort = 5; register = 51; wait = wait; folder = 0 })
       (tenths % 256 ∷ tenths / 256 % 256 ∷ []))
       (59 ∷ 63 ∷ 10 ∷ 11 ∷ 12 ∷ 13 ∷ 14 ∷ 75 ∷ 15 ∷ 16 ∷ []) (ask_told r.answer)
@@ -131,8 +129,8 @@ module _ (box : FilterBox) (desk : Desk) (wait clock : ℕ) (room : List ℕ) (r
 
   pub set_long_plainly : (tenths : ℕ) → SetsEdge Long box desk tenths wait clock room r room'
       → Numbered
-      (row ((address : ℕ) × (which : Pass) × (value : ℕ) × (box.out ≡ out.Edge address which value)) 59
-      ∷ row ((there : ℕ) × (box.short ≡ Known there) × (tenths < there → ⊥)) 63
+      (row ((address : ℕ) × (which : Pass) × (value : ℕ) × (box.out ≡ sent address which value)) 59
+      ∷ row ((there : ℕ) × (box.short ≡ Some there) × (tenths < there → ⊥)) 63
       ∷ desk_rows (record { job = box.job; unit = box.unit; sort = 5; register = 52; wait = wait; folder = 0 })
       (tenths % 256 ∷ tenths / 256 % 256 ∷ []))
       (59 ∷ 63 ∷ 10 ∷ 11 ∷ 12 ∷ 13 ∷ 14 ∷ 75 ∷ 15 ∷ 16 ∷ []) (ask_told r.answer)

@@ -1,43 +1,40 @@
 -- The box's requests: each goes through the desk's own `open`, unless the box refuses it first. 02, #104.
 -- Assumes nothing.
-use Rattle.std.specs.Prelude.{◌≡◌, List, [], ℕ}
+use Rattle.std.specs.Prelude.{◌≡◌, List, [], ℕ, Ok, Err}
 use Rattle.std.proofs.Math.Option.{Option, some, none}
 use Rattle.request.specs.declared.Request.{Request}
 use Rattle.desk.specs.Open.{Opens}
 use Rattle.desk.specs.declared.AfterOpen.{AfterOpen}
 use Rattle.desk.specs.declared.Desk.{Desk}
-use Rattle.desk.specs.declared.Opening.{Opening}
-use Rattle.desk.specs.declared.Opening.TheVariants.{Opened as OpenedAt, Refused as NotOpened}
+use Rattle.desk.specs.Answers.{Opening}
 use Rattle.values.specs.Values.{bytes_of}
 use Rattle.varia.specs.Box.{edge_register, attenuation_register, monitor_register, status_register, request, with_out, fault_number}
 use Rattle.varia.specs.Box.{edge_refusal, attenuation_refusal}
 use Rattle.varia.specs.declared.AfterAsk.{AfterAsk}
-use Rattle.varia.specs.declared.Asking.{Asking}
-use Rattle.varia.specs.declared.Asking.TheVariants.{Opened, Refused}
+use Rattle.varia.specs.Answers.{Asking, asking, sent}
 use Rattle.varia.specs.declared.Fault.{Fault}
 use Rattle.varia.specs.declared.Fault.TheVariants.{AtDesk}
 use Rattle.varia.specs.declared.FilterBox.{FilterBox}
-use Rattle.varia.specs.declared.Out.TheVariants.{Edge}
 use Rattle.varia.specs.declared.Pass.{Pass}
 
 -- the desk's answer, "passed up whole"
 abbrev pub from_desk : Opening → Asking
-from_desk (OpenedAt address n) = Opened address n
-from_desk (NotOpened f) = Refused (AtDesk f)
+from_desk (Ok opened) = asking opened.address opened.size
+from_desk (Err f) = Err (AtDesk f)
 
 -- the number that an answer tells
 abbrev pub ask_told : Asking → Option ℕ
-ask_told (Refused f) = some (fault_number f)
-ask_told (Opened address n) = none
+ask_told (Err f) = some (fault_number f)
+ask_told (Ok opened) = none
 
 -- the box once the desk has answered to a request for an edge: it is out where its ticket was opened
 abbrev pub now_out : FilterBox → Pass → ℕ → Opening → FilterBox
-now_out box pass tenths (OpenedAt address n) = with_out box (Edge address pass tenths)
-now_out box pass tenths (NotOpened f) = box
+now_out box pass tenths (Ok opened) = with_out box (sent opened.address pass tenths)
+now_out box pass tenths (Err f) = box
 
 -- refused by the box, "ahead of the desk's": nothing changes, and no address was considered
 abbrev pub Stays : Fault → FilterBox → Desk → AfterAsk → Type 0
-Stays f box desk r = (r.answer ≡ Refused f) × (r.filters ≡ box) × (r.desk ≡ desk) × (r.count ≡ 0)
+Stays f box desk r = (r.answer ≡ Err f) × (r.filters ≡ box) × (r.desk ≡ desk) × (r.count ≡ 0)
 
 -- what the desk did, its count of 02, #108 too, with the box as it is afterwards
 abbrev pub Passes : FilterBox → AfterOpen → AfterAsk → Type 0

@@ -1,27 +1,23 @@
 -- A VARIA filter box: what it keeps, when it refuses, and what it makes of the desk's answers. 02, #104.
 -- Assumes nothing.
-use Rattle.std.specs.Prelude.{◌≡◌, Bool, true, false, cond, List, [], ◌∷◌, ℕ, ◌<◌, eqb, leb, ltb}
+use Rattle.std.specs.Prelude.{◌≡◌, Bool, true, false, cond, List, [], ◌∷◌, ℕ, ◌<◌, eqb, leb, ltb, Ok, Err, Some, None}
 use Rattle.std.proofs.Math.Option.{Option}
 use Rattle.rows.specs.Rows.{Row, row, Test, test, first_row_of}
 use Rattle.request.specs.declared.Request.{Request}
 use Rattle.desk.specs.Desk.{fault_number as desk_number}
-use Rattle.desk.specs.declared.Booking.{Booking}
-use Rattle.desk.specs.declared.Booking.TheVariants.{Booked, Refused as NotBooked}
-use Rattle.desk.specs.declared.Closing.{Closing}
-use Rattle.desk.specs.declared.Closing.TheVariants.{Closed, Refused as NotClosed}
-use Rattle.varia.specs.declared.Edge.{Edge}
-use Rattle.varia.specs.declared.Edge.TheVariants.{Unknown, Known}
+use Rattle.desk.specs.Answers.{Booking}
+use Rattle.desk.specs.Answers.{Closing}
+use Rattle.varia.specs.Answers.{Edge, sent}
 use Rattle.varia.specs.declared.Fault.{Fault}
 use Rattle.varia.specs.declared.Fault.TheVariants.{EdgeOut, TooMuch, OutOfOrder, AtDesk}
 use Rattle.varia.specs.declared.FilterBox.{FilterBox}
-use Rattle.varia.specs.declared.Out.{Out}
-use Rattle.varia.specs.declared.Out.TheVariants as out
+use Rattle.varia.specs.Answers.{Out}
 use Rattle.varia.specs.declared.Pass.{Pass}
 use Rattle.varia.specs.declared.Pass.TheVariants.{Short, Long}
 
 -- an edge is "unknown, as at first"
 abbrev pub fresh_box : ℕ → ℕ → FilterBox
-fresh_box job unit = record { job = job; unit = unit; short = Unknown; long = Unknown; out = out.Nothing }
+fresh_box job unit = record { job = job; unit = unit; short = None; long = None; out = None }
 
 abbrev pub edge_of : FilterBox → Pass → Edge
 edge_of box Short = box.short
@@ -59,7 +55,7 @@ InOrder Long edge there = edge < there
 
 -- 59: "setting an edge while an edge request is out"
 unfoldable pub IsEdgeOut : FilterBox → Type 0
-IsEdgeOut box = (address : ℕ) × (pass : Pass) × (tenths : ℕ) × (box.out ≡ out.Edge address pass tenths)
+IsEdgeOut box = (address : ℕ) × (pass : Pass) × (tenths : ℕ) × (box.out ≡ sent address pass tenths)
 
 -- 62: "attenuation over 1000"
 unfoldable pub IsTooMuch : ℕ → Type 0
@@ -67,7 +63,7 @@ IsTooMuch permille = 1000 < permille
 
 -- 63: "edges not in order"; "each new edge is checked against the other one as last acknowledged, unless that is unknown"
 unfoldable pub IsOutOfOrder : FilterBox → Pass → ℕ → Type 0
-IsOutOfOrder box pass tenths = (there : ℕ) × (edge_of box (other pass) ≡ Known there) × (InOrder pass tenths there → ⊥)
+IsOutOfOrder box pass tenths = (there : ℕ) × (edge_of box (other pass) ≡ Some there) × (InOrder pass tenths there → ⊥)
 
 unfoldable pub edge_rows : FilterBox → Pass → ℕ → List (Row Fault)
 edge_rows box pass tenths = row (IsEdgeOut box) EdgeOut ∷ row (IsOutOfOrder box pass tenths) OutOfOrder ∷ []
@@ -85,13 +81,13 @@ fault_number (AtDesk f) = desk_number f
 -- ---- how they are tested
 
 abbrev pub is_out : Out → Bool
-is_out out.Nothing = false
-is_out (out.Edge address pass tenths) = true
+is_out None = false
+is_out (Some was) = true
 
 abbrev pub is_out_of_order : Pass → ℕ → Edge → Bool
-is_out_of_order pass tenths Unknown = false
-is_out_of_order Short tenths (Known there) = leb tenths there
-is_out_of_order Long tenths (Known there) = leb there tenths
+is_out_of_order pass tenths None = false
+is_out_of_order Short tenths (Some there) = leb tenths there
+is_out_of_order Long tenths (Some there) = leb there tenths
 
 abbrev pub edge_tests : FilterBox → Pass → ℕ → List (Test Fault)
 edge_tests box pass tenths = test (is_out box.out) EdgeOut ∷ test (is_out_of_order pass tenths (edge_of box (other pass))) OutOfOrder ∷ []
@@ -112,27 +108,27 @@ with_out box o = record { job = box.job; unit = box.unit; short = box.short; lon
 
 -- that edge, and nothing out any more
 abbrev pub with_edge : FilterBox → Pass → Edge → FilterBox
-with_edge box Short edge = record { job = box.job; unit = box.unit; short = edge; long = box.long; out = out.Nothing }
-with_edge box Long edge = record { job = box.job; unit = box.unit; short = box.short; long = edge; out = out.Nothing }
+with_edge box Short edge = record { job = box.job; unit = box.unit; short = edge; long = box.long; out = None }
+with_edge box Long edge = record { job = box.job; unit = box.unit; short = box.short; long = edge; out = None }
 
 -- an edge "as last acknowledged": by type 3; "after a nack, check error or busy it stays as it was"
 abbrev pub booked : Out → FilterBox → ℕ → ℕ → FilterBox
-booked out.Nothing box address sort = box
-booked (out.Edge at pass tenths) box address sort =
-    cond (eqb at address) (cond (eqb sort 3) (with_edge box pass (Known tenths)) (with_out box out.Nothing)) box
+booked None box address sort = box
+booked (Some was) box address sort =
+    cond (eqb was.address address) (cond (eqb sort 3) (with_edge box was.pass (Some was.tenths)) (with_out box None)) box
 
 -- "an edge whose request expires or is cancelled becomes unknown"
 abbrev pub withdrawn : Out → FilterBox → ℕ → FilterBox
-withdrawn out.Nothing box address = box
-withdrawn (out.Edge at pass tenths) box address = cond (eqb at address) (with_edge box pass Unknown) box
+withdrawn None box address = box
+withdrawn (Some was) box address = cond (eqb was.address address) (with_edge box was.pass None) box
 
 abbrev pub heard_reply : FilterBox → Booking → FilterBox
-heard_reply box (Booked job address sort n folder) = booked box.out box address sort
-heard_reply box (NotBooked f) = box
+heard_reply box (Ok told) = booked box.out box told.address told.sort
+heard_reply box (Err f) = box
 
 abbrev pub heard_closing : FilterBox → Closing → FilterBox
-heard_closing box (Closed job address folder) = withdrawn box.out box address
-heard_closing box (NotClosed f) = box
+heard_closing box (Ok closed) = withdrawn box.out box closed.address
+heard_closing box (Err f) = box
 
 -- ---- the contracts
 

@@ -11,15 +11,8 @@ ghost use Rattle.std.specs.Prelude.{◌≡◌, []};
 ghost use Rattle.varia.specs.declared.Pass.TheVariants.{Short, Long};
 
 pub use desk::Desk;
-use desk::{AfterOpen, Booking, Closing, Opening, Request};
+use desk::{AfterOpen, Booked, Closed, Opened, Request};
 use telegram::{ACK, READ, WRITE};
-
-// An edge as last acknowledged, in tenths of a nanometre.
-#[derive(Clone, Copy)]
-pub enum Edge {
-    Unknown,
-    Known(u16),
-}
 
 // Which edge: that of the short-pass filter or that of the long-pass filter.
 #[derive(Clone, Copy)]
@@ -28,12 +21,13 @@ pub enum Pass {
     Long,
 }
 
-// The request to set an edge that is out.
+// A request to set an edge that is out: the host address of its ticket, which edge, and the value that
+// it asks for.
 #[derive(Clone, Copy)]
-pub enum Out {
-    Nothing,
-    // the host address of its ticket, which edge, and the value that it asks for
-    Edge(u8, Pass, u16),
+pub struct Sent {
+    pub address: u8,
+    pub pass: Pass,
+    pub tenths: u16,
 }
 
 // The box at a module, `unit`, for a job. It learns of an edge only by what the desk answers, so every
@@ -42,9 +36,10 @@ pub enum Out {
 pub struct FilterBox {
     pub job: u32,
     pub unit: u8,
-    pub short: Edge,
-    pub long: Edge,
-    pub out: Out,
+    // each edge as last acknowledged, in tenths of a nanometre; `None` where it is not known
+    pub short: Option<u16>,
+    pub long: Option<u16>,
+    pub out: Option<Sent>,
 }
 
 // Why a request was not sent.
@@ -60,19 +55,12 @@ pub enum Fault {
     AtDesk(desk::Fault),
 }
 
-#[derive(Clone, Copy)]
-pub enum Asking {
-    // the host address that was given, and the length of the request telegram
-    Opened(u8, usize),
-    Refused(Fault),
-}
-
 // A call's answer, with the box and the desk as they are afterwards.
 #[derive(Clone, Copy)]
 pub struct AfterAsk {
     pub filters: FilterBox,
     pub desk: Desk,
-    pub answer: Asking,
+    pub answer: Result<Opened, Fault>,
     // how many addresses the desk considered; 0 where the box refused and it was not asked
     pub count: u8,
 }
@@ -105,9 +93,9 @@ pub fn make(job: u32, unit: u8) -> FilterBox
     FilterBox {
         job,
         unit,
-        short: Edge::Unknown,
-        long: Edge::Unknown,
-        out: Out::Nothing,
+        short: None,
+        long: None,
+        out: None,
     }
 }
 
@@ -283,21 +271,11 @@ fn asked(filters: FilterBox, sort: u8, register: u8, wait: u32) -> Request
 fn passed_on(filters: FilterBox, after: AfterOpen) -> AfterAsk
     ensures { Passes filters after result }
 {
-    let desk = after.desk;
-    let answer = after.answer;
-    match answer {
-        Opening::Opened(address, n) => AfterAsk {
-            filters,
-            desk,
-            answer: Asking::Opened(address, n),
-            count: after.count,
-        },
-        Opening::Refused(fault) => AfterAsk {
-            filters,
-            desk,
-            answer: Asking::Refused(Fault::AtDesk(fault)),
-            count: after.count,
-        },
+    AfterAsk {
+        filters,
+        desk: after.desk,
+        answer: after.answer.map_err(Fault::AtDesk),
+        count: after.count,
     }
 }
 
@@ -308,33 +286,41 @@ fn refused(filters: FilterBox, desk: Desk, fault: Fault) -> AfterAsk
     AfterAsk {
         filters,
         desk,
-        answer: Asking::Refused(fault),
+        answer: Err(fault),
         count: 0,
     }
 }
 
 // The box once the desk has answered to a request for an edge.
-fn now_out(filters: FilterBox, pass: Pass, tenths: u16, answer: Opening) -> FilterBox
+fn now_out(
+    filters: FilterBox,
+    pass: Pass,
+    tenths: u16,
+    answer: Result<Opened, desk::Fault>,
+) -> FilterBox
     ensures { result ≡ now_out filters pass tenths answer }
 {
     match answer {
-        Opening::Opened(address, _) => with_out(filters, Out::Edge(address, pass, tenths)),
-        Opening::Refused(_) => filters,
+        Ok(Opened { address, .. }) => with_out(
+            filters,
+            Some(Sent {
+                address,
+                pass,
+                tenths,
+            }),
+        ),
+        Err(_) => filters,
     }
 }
 
 fn is_out(filters: FilterBox) -> bool
     ensures { result ≡ is_out filters.out }
 {
-    let out = filters.out;
-    match out {
-        Out::Nothing => false,
-        Out::Edge(_, _, _) => true,
-    }
+    filters.out.is_some()
 }
 
 // The other edge, as last acknowledged.
-fn opposite(filters: FilterBox, pass: Pass) -> Edge
+fn opposite(filters: FilterBox, pass: Pass) -> Option<u16>
     ensures { result ≡ edge_of filters (other pass) }
 {
     match pass {
@@ -344,10 +330,10 @@ fn opposite(filters: FilterBox, pass: Pass) -> Edge
 }
 
 // Whether a new edge would leave the short-pass edge not above the long-pass edge.
-fn out_of_order(pass: Pass, tenths: u16, opposite: Edge) -> bool
+fn out_of_order(pass: Pass, tenths: u16, opposite: Option<u16>) -> bool
     ensures { result ≡ is_out_of_order pass tenths opposite }
 {
-    let Edge::Known(there) = opposite else {
+    let Some(there) = opposite else {
         return false;
     };
     match pass {
@@ -366,44 +352,42 @@ fn edge_register(pass: Pass) -> u8
 }
 
 // Tells the box what the desk answered to a reply. Only that on its own request for an edge changes it.
-pub fn told_reply(filters: FilterBox, answer: Booking) -> FilterBox
+pub fn told_reply(filters: FilterBox, answer: Result<Booked, desk::Fault>) -> FilterBox
     ensures { HearsReply filters answer result }
 {
-    let Booking::Booked(_, address, sort, _, _) = answer else {
+    let Ok(Booked { address, sort, .. }) = answer else {
         return filters;
     };
-    let out = filters.out;
-    let Out::Edge(at, pass, tenths) = out else {
+    let Some(sent) = filters.out else {
         return filters;
     };
-    if at != address {
+    if sent.address != address {
         return filters;
     }
     if sort == ACK {
-        return with_edge(filters, pass, Edge::Known(tenths));
+        return with_edge(filters, sent.pass, Some(sent.tenths));
     }
-    with_out(filters, Out::Nothing)
+    with_out(filters, None)
 }
 
 // Tells the box what the desk answered to cancel or expire. Its own edge, if it was that, is unknown.
-pub fn told_closing(filters: FilterBox, answer: Closing) -> FilterBox
+pub fn told_closing(filters: FilterBox, answer: Result<Closed, desk::Fault>) -> FilterBox
     ensures { HearsClosing filters answer result }
 {
-    let Closing::Closed(_, address, _) = answer else {
+    let Ok(Closed { address, .. }) = answer else {
         return filters;
     };
-    let out = filters.out;
-    let Out::Edge(at, pass, _) = out else {
+    let Some(sent) = filters.out else {
         return filters;
     };
-    if at != address {
+    if sent.address != address {
         return filters;
     }
-    with_edge(filters, pass, Edge::Unknown)
+    with_edge(filters, sent.pass, None)
 }
 
 // The box with something else out.
-fn with_out(filters: FilterBox, out: Out) -> FilterBox
+fn with_out(filters: FilterBox, out: Option<Sent>) -> FilterBox
     ensures { result ≡ with_out filters out }
 {
     let short = filters.short;
@@ -418,7 +402,7 @@ fn with_out(filters: FilterBox, out: Out) -> FilterBox
 }
 
 // The box with that edge, and nothing out any more.
-fn with_edge(filters: FilterBox, pass: Pass, edge: Edge) -> FilterBox
+fn with_edge(filters: FilterBox, pass: Pass, edge: Option<u16>) -> FilterBox
     ensures { result ≡ with_edge filters pass edge }
 {
     let short = filters.short;
@@ -429,14 +413,14 @@ fn with_edge(filters: FilterBox, pass: Pass, edge: Edge) -> FilterBox
             unit: filters.unit,
             short: edge,
             long,
-            out: Out::Nothing,
+            out: None,
         },
         Pass::Long => FilterBox {
             job: filters.job,
             unit: filters.unit,
             short,
             long: edge,
-            out: Out::Nothing,
+            out: None,
         },
     }
 }

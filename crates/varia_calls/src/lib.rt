@@ -2,8 +2,8 @@
 // afterwards. A part of the test tool `rehearsal`.
 #![tactic(auto)]
 
-use desk::Desk;
-use varia::{AfterAsk, Asking, Edge, Fault, FilterBox, Out, Pass};
+use desk::{Desk, Opened};
+use varia::{AfterAsk, Fault, FilterBox, Pass, Sent};
 use words::{Words, byte, count, word32};
 
 // What there is: the desk, the box, and whether one was made.
@@ -201,13 +201,13 @@ fn asked(after: AfterAsk, room: &[u8], out: &mut [u8]) -> Filtered {
     }
 }
 
-fn opened(answer: Asking, count: u8, out: &mut [u8]) -> usize {
+fn opened(answer: Result<Opened, Fault>, count: u8, out: &mut [u8]) -> usize {
     match answer {
-        Asking::Refused(fault) => refused(fault, count, out),
-        Asking::Opened(address, n) => answers::form(
+        Err(fault) => refused(fault, count, out),
+        Ok(Opened { address, size }) => answers::form(
             out,
             b"ok address=# n=# count=#",
-            &[address as u64, n as u64, count as u64],
+            &[address as u64, size as u64, count as u64],
         ),
     }
 }
@@ -294,18 +294,24 @@ fn dumped(filters: FilterBox, out: &mut [u8]) -> usize {
 }
 
 // An edge, `?` for unknown.
-fn edge(edge: Edge, out: &mut [u8], at: usize) -> usize {
+fn edge(edge: Option<u16>, out: &mut [u8], at: usize) -> usize {
     match edge {
-        Edge::Unknown => answers::text(out, at, b"?"),
-        Edge::Known(tenths) => answers::number(out, at, tenths as u64),
+        None => answers::text(out, at, b"?"),
+        Some(tenths) => answers::number(out, at, tenths as u64),
     }
 }
 
 // What is out, `-` for nothing.
-fn is_out(outside: Out, out: &mut [u8], at: usize) -> usize {
+fn is_out(outside: Option<Sent>, out: &mut [u8], at: usize) -> usize {
     match outside {
-        Out::Nothing => answers::text(out, at, b"-"),
-        Out::Edge(address, pass, tenths) => {
+        None => answers::text(out, at, b"-"),
+        Some(
+            Sent {
+                address,
+                pass,
+                tenths,
+            },
+        ) => {
             let a = answers::number(out, at, address as u64);
             let b = which_edge(pass, out, a);
             answers::number(out, b, tenths as u64)

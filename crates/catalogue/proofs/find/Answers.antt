@@ -11,20 +11,20 @@ use Rattle.values.specs.Values.{size_of, is_signed, greatest}
 use Rattle.catalogue.specs.Catalogue.{table, row_of}
 use Rattle.catalogue.proofs.Lookup.{row_for, answered}
 use Rattle.catalogue.proofs.find.Goals as goal
-use Rattle.catalogue.proofs.find.Goals.{After-find-found}
+use Rattle.catalogue.proofs.find.Goals.{After-find}
 
-looked : (c : After-find-found) → option_map (λ r. r.now) c.find-found.result ≡ find (row_for c.args.model c.args.register) (map row_of table)
+looked : (c : After-find) → option_map (λ r. r.now) c.find.result ≡ find (row_for c.args.model c.args.register) (map row_of table)
 unfolding table size_of is_signed greatest
 looked c =
-    find_from_yields_List (row_for c.args.model c.args.register) _ _ c.find-found.result c.find-found.ensures.ran
+    find_from_yields_List (row_for c.args.model c.args.register) _ _ c.find.result c.find.ensures.ran
     (YieldsList-from_slice (map row_of table) c.iter.ensures.rest) (λ x b q k. search (rules, tests))
 
-pub returns-in-Some : goal.returns-in-Some
-returns-in-Some c =
-    let found = looked (goal.at.returns-in-Some c).After-find-found in
+pub returns : goal.returns
+returns c =
+    let found = looked (goal.at.returns c).After-find in
     answered c.args.model c.args.register (rw c.in-Some.is at found)
 
-pub returns-in-None : goal.returns-in-None
-returns-in-None c =
-    let found = looked (goal.at.returns-in-None c).After-find-found in
-    answered c.args.model c.args.register (rw c.in-None.is at found)
+pub returns-in_default : goal.returns-in_default
+returns-in_default c =
+    let found = looked (goal.at.returns-in_default c).After-find in
+    answered c.args.model c.args.register (rw c.in_default.is at found)

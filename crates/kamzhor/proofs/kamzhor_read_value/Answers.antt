@@ -10,14 +10,14 @@ pub returns-then-kind-gt255 : goal.returns-then-kind-gt255
 returns-then-kind-gt255 c = c.refused.ensures ∙ sym (ap value_given (unknown_kind _ _ _ (omega (arith, c.if-kind-gt255.true))))
 
 pub of_value-requires : goal.of_value-requires
-of_value-requires c = read_small _ _ _ _ (sym c.read.ensures ∙ c.in-Is.is)
+of_value-requires c = read_small _ _ _ _ (sym c.read.ensures ∙ c.in-Ok.is)
 
-pub returns-in-Refused : goal.returns-in-Refused
-returns-in-Refused c =
-    c.refused-in-Refused.ensures
-    ∙ ap value_given (sym c.in-Refused.is ∙ c.read.ensures)
+pub returns-in-Err : goal.returns-in-Err
+returns-in-Err c =
+    c.refused-in-Err.ensures
+    ∙ ap value_given (sym c.in-Err.is ∙ c.read.ensures)
 
-pub returns-in-Is : goal.returns-in-Is
-returns-in-Is c =
+pub returns-in-Ok : goal.returns-in-Ok
+returns-in-Ok c =
     c.of_value.ensures
-    ∙ ap value_given (sym c.in-Is.is ∙ c.read.ensures)
+    ∙ ap value_given (sym c.in-Ok.is ∙ c.read.ensures)

@@ -1,15 +1,15 @@
 use borrow.Author.Rules.{rules}
-use mathlib.Core.Path.{refl, sym}
+use mathlib.Core.Path.{refl, sym, ◌∙◌}
 use native.Mathlib.Nat.{add-zero}
 use native.Mathlib.Omega.{arith}
-use Rattle.night.proofs.Laws.{same_room, within, less, coming, all_taken, all_carried, is_over_lem}
+use Rattle.night.proofs.Laws.{same_room, within, less, coming, done_lem, all_taken, all_carried, is_over_lem}
 use Rattle.night.proofs.list.Goals as goal
 
 pub loop-taken-init : goal.loop-taken-init
 loop-taken-init c = record { room_long = refl; in_piece = omega arith; moved = sym (add-zero _); in_places = λ z. absurd (omega arith); carries = refl }
 
-pub returns-in_default : goal.returns-in_default
-returns-in_default c = (is_over_lem c.unread.ensures, same_room c.loop-taken.invariant c.list-listed.result c.list-listed.new.room c.list-listed.ensures, is_over_lem c.unread.ensures)
+pub returns-then-is_err : goal.returns-then-is_err
+returns-then-is_err c = (is_over_lem c.unread.ensures, same_room c.loop-taken.invariant c.list-listed.result c.list-listed.new.room c.list-listed.ensures, is_over_lem c.unread.ensures)
 
 pub slice_bounds-write_all-end : goal.slice_bounds-write_all-end
 slice_bounds-write_all-end c =
@@ -28,13 +28,13 @@ pub loop-taken-smaller : goal.loop-taken-smaller
 loop-taken-smaller c =
     let under = c.loop-taken-test.true in
     let wide = c.requires.0 in
-    let done = c.in-Done.is in
+    let done = done_lem c.list-listed.result.outcome (sym c.is_err.ensures.value ∙ c.if-is_err.false) in
     less c.loop-taken.invariant c.list-listed.result c.list-listed.new.room c.list-listed.ensures under wide done
 
 pub loop-taken-preserved : goal.loop-taken-preserved
 loop-taken-preserved c =
     let under = c.loop-taken-test.true in
-    let done = c.in-Done.is in
+    let done = done_lem c.list-listed.result.outcome (sym c.is_err.ensures.value ∙ c.if-is_err.false) in
     coming c.loop-taken.invariant c.list-listed.result c.list-listed.new.room c.list-listed.ensures under done
 
 pub returns : goal.returns

@@ -7,7 +7,7 @@ pub returns-then-is_its_own : goal.returns-then-is_its_own
 returns-then-is_its_own c =
     c.turn_over.ensures
     ∙ ap (turn_over c.args.scan) c.answer_of.ensures
-    ∙ reply_ends _ _ _ c.is_its_own.ensures _ _ _ _ _ c.in-Booked.is c.if-is_its_own.true
+    ∙ reply_ends _ _ _ c.is_its_own.ensures _ _ _ _ _ c.in-Ok.is c.if-is_its_own.true
 
 pub returns : goal.returns
-returns c = reply_leaves _ _ _ c.is_its_own.ensures _ _ _ _ _ c.in-Booked.is c.if-is_its_own.false
+returns c = reply_leaves _ _ _ c.is_its_own.ensures _ _ _ _ _ c.in-Ok.is c.if-is_its_own.false

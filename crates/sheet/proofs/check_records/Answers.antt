@@ -1,3 +1,4 @@
+use Rattle.std.specs.Prelude.{Ok}
 use mathlib.Core.Path.{◌≡◌, ap}
 use mathlib.Core.Bool.{cond}
 use mathlib.Core.List.{List}
@@ -8,7 +9,6 @@ use Rattle.rows.specs.Rows.{first_row_of}
 use Rattle.setting.specs.declared.Fault.TheVariants.{WrongPlaces}
 use Rattle.setting.specs.Setting.{heads, falls, unfit}
 use Rattle.sheet.specs.Sheet.{record_tests}
-use Rattle.sheet.specs.declared.Checked.TheVariants as checked
 use Rattle.sheet.proofs.Steps.{counted, rows_few, record_found, no_record_found, past_69}
 use Rattle.sheet.proofs.check_records.Goals as goal
 use Rattle.sheet.proofs.check_records.Goals.{After-is_misplaced}
@@ -53,4 +53,4 @@ pub returns-then-is_misplaced : goal.returns-then-is_misplaced
 returns-then-is_misplaced c = rw (told (goal.at.returns-then-is_misplaced c).After-is_misplaced, c.if-is_misplaced.true)
 
 pub returns : goal.returns
-returns c = rw (told (goal.at.returns c).After-is_misplaced, c.if-is_misplaced.false) (ap checked.Right (counted _ _ c.field-n.ensures))
+returns c = rw (told (goal.at.returns c).After-is_misplaced, c.if-is_misplaced.false) (ap Ok (counted _ _ c.field-n.ensures))

@@ -1,17 +1,18 @@
 use mathlib.Core.Path.{sym, ◌∙◌}
+use Rattle.std.proofs.lemmas.Result.{err_from_is_err_and}
 use Rattle.sheet_editor.proofs.Steps.{right_sheet, wrong_sheet, no_refusal, remove_wrong, remove_right}
 use Rattle.sheet_editor.proofs.remove.Goals as goal
 
 pub remove_from-requires : goal.remove_from-requires
-remove_from-requires c = right_sheet c.args.room.now c.args.size _ (sym c.in-Right.is ∙ c.judge.ensures)
+remove_from-requires c = right_sheet c.args.room.now c.args.size _ (sym c.in_ok-n.was ∙ c.judge.ensures)
 
-pub returns-in-Wrong : goal.returns-in-Wrong
-returns-in-Wrong c =
-    remove_wrong c.args.room.now c.args.size c.args.index _
-    (wrong_sheet c.args.room.now c.args.size _ (sym c.in-Wrong.is ∙ c.judge.ensures))
+pub returns-in_err-n : goal.returns-in_err-n
+returns-in_err-n c =
+    let p = err_from_is_err_and c.from_residual.result c.from_residual.ensures.1 in
+    rw (p.1, p.2) (remove_wrong c.args.room.now c.args.size c.args.index _ (wrong_sheet c.args.room.now c.args.size _ (sym c.in_err-n.was ∙ c.judge.ensures)))
 
-pub returns-in-Right : goal.returns-in-Right
-returns-in-Right c =
+pub returns : goal.returns
+returns c =
     remove_right c.args.room.now c.args.size c.args.index _ _
-    (no_refusal c.args.room.now c.args.size _ (sym c.in-Right.is ∙ c.judge.ensures))
+    (no_refusal c.args.room.now c.args.size _ (sym c.in_ok-n.was ∙ c.judge.ensures))
     c.remove_from.ensures

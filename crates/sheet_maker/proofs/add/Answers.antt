@@ -1,4 +1,5 @@
-use mathlib.Core.Path.{refl}
+use Rattle.std.specs.Prelude.{Ok}
+use mathlib.Core.Path.{refl, ◌∙◌, ap}
 use lib.ListN.{replicate}
 use Rattle.sheet_maker.proofs.Steps.{value_short}
 use Rattle.sheet_maker.proofs.Whole.{nothing_added, wrong_added, line_added}
@@ -7,17 +8,17 @@ use Rattle.sheet_maker.proofs.add.Goals as goal
 
 pub slice_bounds-add-end : goal.slice_bounds-add-end
 slice_bounds-add-end c =
-    let h = value_short c.args.line.now (replicate 240 0) _ _ _ c.in-Is.is c.read.ensures in
+    let h = value_short c.args.line.now (replicate 240 0) _ _ _ (c.in-Ok-Some.is ∙ ap Ok c.in-Ok-Some.field-0-is) c.read.ensures in
     search rules
 
-pub returns-in-Nothing : goal.returns-in-Nothing
-returns-in-Nothing c = nothing_added _ _ c.args.line.now (replicate 240 0) _ _ refl c.in-Nothing.is c.read.ensures.0 c.not_added.ensures
+pub returns-in-Ok-None : goal.returns-in-Ok-None
+returns-in-Ok-None c = nothing_added _ _ c.args.line.now (replicate 240 0) _ _ refl (c.in-Ok-None.is ∙ ap Ok c.in-Ok-None.field-0-is) c.read.ensures.0 c.not_added.ensures
 
-pub returns-in-Wrong : goal.returns-in-Wrong
-returns-in-Wrong c = wrong_added _ _ c.args.line.now (replicate 240 0) _ _ _ refl c.in-Wrong.is c.read.ensures.0 c.not_added-in-Wrong.ensures
+pub returns-in-Err : goal.returns-in-Err
+returns-in-Err c = wrong_added _ _ c.args.line.now (replicate 240 0) _ _ _ refl c.in-Err.is c.read.ensures.0 c.not_added-in-Err.ensures
 
-pub returns-in-Edited : goal.returns-in-Edited
-returns-in-Edited c = line_added _ _ c.args.line.now (replicate 240 0) _ _ _ _ _ _ refl c.in-Is.is c.read.ensures c.in-Edited.is c.add.ensures
+pub returns-in-Ok : goal.returns-in-Ok
+returns-in-Ok c = line_added _ _ c.args.line.now (replicate 240 0) _ _ _ _ _ _ refl (c.in-Ok-Some.is ∙ ap Ok c.in-Ok-Some.field-0-is) c.read.ensures c.in-Ok.is c.add.ensures
 
-pub returns-in-Refused : goal.returns-in-Refused
-returns-in-Refused c = line_added _ _ c.args.line.now (replicate 240 0) _ _ _ _ _ _ refl c.in-Is.is c.read.ensures c.in-Refused.is c.add.ensures
+pub returns-in-Err-add : goal.returns-in-Err-add
+returns-in-Err-add c = line_added _ _ c.args.line.now (replicate 240 0) _ _ _ _ _ _ refl (c.in-Ok-Some.is ∙ ap Ok c.in-Ok-Some.field-0-is) c.read.ensures c.in-Err-add.is c.add.ensures

@@ -1,5 +1,6 @@
 -- `as_stored` is `stored_value`: the tests that led to each answer are those of its rows.
 -- Assumes nothing.
+use Rattle.std.specs.Prelude.{Ok, Err}
 use mathlib.Core.Path.{◌≡◌, sym, ap, ◌∙◌}
 use mathlib.Core.Bool.{true, false}
 use Prim.Native.Nat.{ℕ, ◌+◌, ◌-◌, ◌*◌, ◌^◌, ◌<◌, ◌≤◌}
@@ -10,32 +11,31 @@ use Rattle.values.specs.Values.{size_of, is_signed, is_kind, greatest, fits, sto
 use Rattle.values.specs.declared.Value.{Value}
 use Rattle.values.specs.declared.Value.TheVariants.{Natural, Negative}
 use Rattle.values.specs.declared.Fault.TheVariants.{UnknownKind, DoesNotFit}
-use Rattle.values.specs.declared.Stored.TheVariants.{As, Refused}
 use Rattle.values.proofs.Sized.{size-le, power_half, half_le, greatest_signed, kind_known, kind_unknown}
 use Rattle.values.proofs.as_stored.Goals as goal
 use Rattle.values.proofs.as_stored.Goals.{else-signed-via-then-signed+else-below-top, else-signed-via-else-signed}
 
-unknown : (kind : ℕ) (value : Value) → is_kind kind ≡ false → Refused UnknownKind ≡ stored_value kind value
+unknown : (kind : ℕ) (value : Value) → is_kind kind ≡ false → Err UnknownKind ≡ stored_value kind value
 unfolding stored_value stored_refusal
 unknown kind value k = rw k
 
-unfit : (kind : ℕ) (value : Value) → is_kind kind ≡ true → fits kind value ≡ false → Refused DoesNotFit ≡ stored_value kind value
+unfit : (kind : ℕ) (value : Value) → is_kind kind ≡ true → fits kind value ≡ false → Err DoesNotFit ≡ stored_value kind value
 unfolding stored_value stored_refusal
 unfit kind value k f = rw (k, f)
 
 kept : (kind : ℕ) (value : Value) (n : ℕ) → is_kind kind ≡ true → fits kind value ≡ true → n ≡ stored_at (size_of kind) value
-    → As n ≡ stored_value kind value
+    → Ok n ≡ stored_value kind value
 unfolding stored_value stored_refusal
 kept kind value n k f e = rw (k, f, e)
 
 module _ (kind : ℕ) (value : Value) (n top : ℕ) (size : n ≡ size_of kind) (some : n ≡ 0 → ⊥) (high : top ≡ greatest kind) where
-  natural-kept : (v : ℕ) → value ≡ Natural v → v ≤ top → As v ≡ stored_value kind value
+  natural-kept : (v : ℕ) → value ≡ Natural v → v ≤ top → Ok v ≡ stored_value kind value
   unfolding fits stored_at
   natural-kept v e h =
       kept kind value v (kind_known kind n size some)
       (ap (fits kind) e ∙ le-leb v (greatest kind) (rw high at h)) (sym (ap (stored_at (size_of kind)) e))
 
-  natural-unfit : (v : ℕ) → value ≡ Natural v → top < v → Refused DoesNotFit ≡ stored_value kind value
+  natural-unfit : (v : ℕ) → value ≡ Natural v → top < v → Err DoesNotFit ≡ stored_value kind value
   unfolding fits
   natural-unfit v e h =
       unfit kind value (kind_known kind n size some) (ap (fits kind) e ∙ lt-leb v (greatest kind) (rw high at h))
@@ -49,19 +49,19 @@ module _ (kind : ℕ) (value : Value) (n top : ℕ) (size : n ≡ size_of kind) 
         omega (arith, half_le (size_of kind) (size-le kind pos), greatest_signed kind s, pow_pos (8 * size_of kind - 1)),
       )
 
-  negative-kept : (m : ℕ) → value ≡ Negative m → is_signed kind ≡ true → m ≤ top → As (top + 1 + (top - m)) ≡ stored_value kind value
+  negative-kept : (m : ℕ) → value ≡ Negative m → is_signed kind ≡ true → m ≤ top → Ok (top + 1 + (top - m)) ≡ stored_value kind value
   unfolding fits stored_at
   negative-kept m e s h =
       kept kind value (top + 1 + (top - m)) (kind_known kind n size some)
       (ap (fits kind) e ∙ rw s (le-leb m (greatest kind) (rw high at h)))
       ((mirrored m s h).0 ∙ sym (ap (stored_at (size_of kind)) e))
 
-  negative-unfit : (m : ℕ) → value ≡ Negative m → is_signed kind ≡ true → top < m → Refused DoesNotFit ≡ stored_value kind value
+  negative-unfit : (m : ℕ) → value ≡ Negative m → is_signed kind ≡ true → top < m → Err DoesNotFit ≡ stored_value kind value
   unfolding fits
   negative-unfit m e s h =
       unfit kind value (kind_known kind n size some) (ap (fits kind) e ∙ rw s (lt-leb m (greatest kind) (rw high at h)))
 
-  unsigned-unfit : (m : ℕ) → value ≡ Negative m → is_signed kind ≡ false → Refused DoesNotFit ≡ stored_value kind value
+  unsigned-unfit : (m : ℕ) → value ≡ Negative m → is_signed kind ≡ false → Err DoesNotFit ≡ stored_value kind value
   unfolding fits
   unsigned-unfit m e s = unfit kind value (kind_known kind n size some) (ap (fits kind) e ∙ rw s)
 

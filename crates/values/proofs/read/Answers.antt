@@ -1,5 +1,6 @@
 -- `read` tests its rows in their order; what is left is the value of the element's bytes.
 -- Assumes nothing.
+use Rattle.std.specs.Prelude.{Ok, Err}
 use mathlib.Core.Path.{◌≡◌, ap₂, ◌∙◌}
 use mathlib.Core.Bool.{Bool}
 use mathlib.Core.List.{List}
@@ -12,7 +13,6 @@ use lib.Seq.{take_all}
 use Rattle.values.specs.Values.{size_of, is_signed, natural, value_at, element_of, read_refusal, read_value}
 use Rattle.values.specs.declared.Value.{Value}
 use Rattle.values.specs.declared.Fault.TheVariants.{UnknownKind, WrongLength, NoSuchElement}
-use Rattle.values.specs.declared.Reading.TheVariants.{Is, Refused}
 use Rattle.values.proofs.Bytes.{element_lt}
 use Rattle.values.proofs.Sized.{size-le, kind_known, kind_unknown}
 use Rattle.values.proofs.read.Goals as goal
@@ -26,22 +26,22 @@ outside : (len n k : ℕ) → (n ≡ 0 → ⊥) → len / n ≤ k → len < (k +
 outside len n k some h = (div-lt_iff_lt-mul {k = n} {x = len} {y = k + 1} (omega arith)).0 (omega arith)
 
 module _ (kind : ℕ) (bytes : List ℕ) (element n : ℕ) (size : n ≡ size_of kind) where
-  unknown : n ≡ 0 → Refused UnknownKind ≡ read_value kind bytes element
+  unknown : n ≡ 0 → Err UnknownKind ≡ read_value kind bytes element
   unfolding read_value read_refusal
   unknown e = rw (kind_unknown kind n size e)
 
   module _ (some : n ≡ 0 → ⊥) where
-    empty : length bytes ≡ 0 → Refused WrongLength ≡ read_value kind bytes element
+    empty : length bytes ≡ 0 → Err WrongLength ≡ read_value kind bytes element
     unfolding read_value read_refusal
     empty e = rw (kind_known kind n size some, e)
 
     module _ (filled : length bytes ≡ 0 → ⊥) where
-      uneven : (length bytes % n ≡ 0 → ⊥) → Refused WrongLength ≡ read_value kind bytes element
+      uneven : (length bytes % n ≡ 0 → ⊥) → Err WrongLength ≡ read_value kind bytes element
       unfolding read_value read_refusal
       uneven u = rw (kind_known kind n size some, ne_eqb _ _ filled, ← size, ne_eqb _ _ u)
 
       module _ (even : length bytes % n ≡ 0) where
-        past : length bytes / n ≤ element → Refused NoSuchElement ≡ read_value kind bytes element
+        past : length bytes / n ≤ element → Err NoSuchElement ≡ read_value kind bytes element
         unfolding read_value read_refusal
         past h =
             rw (
@@ -53,7 +53,7 @@ module _ (kind : ℕ) (bytes : List ℕ) (element n : ℕ) (size : n ≡ size_of
             )
 
         found : element < length bytes / n → (v : Value) → v ≡ value_at (is_signed kind) n (natural (element_of n bytes element))
-            → Is v ≡ read_value kind bytes element
+            → Ok v ≡ read_value kind bytes element
         unfolding read_value read_refusal
         found h v e =
             let within : (element + 1) * n ≤ length bytes = omega (arith, inside (length bytes) n element some h) in

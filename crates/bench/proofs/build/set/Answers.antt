@@ -11,17 +11,17 @@ returns-in_default c =
     (set_not _ _ _ (found_not _ _ (sym c.find.ensures ∙ c.in_default.is))) c.refused.ensures
 
 pub register_at-register-requires : goal.register_at-register-requires
-register_at-register-requires c = (found_held _ _ _ (sym c.find.ensures ∙ c.in-At.is)).under
+register_at-register-requires c = (found_held _ _ _ (sym c.find.ensures ∙ c.in-Some.is)).under
 
 pub returns-in_default-as_stored : goal.returns-in_default-as_stored
 returns-in_default-as_stored c =
-    set_refused _ _ _ _ (found_held _ _ _ (sym c.find.ensures ∙ c.in-At.is)) _ c.register_at-register.ensures _
+    set_refused _ _ _ _ (found_held _ _ _ (sym c.find.ensures ∙ c.in-Some.is)) _ c.register_at-register.ensures _
     c.as_stored.ensures _ _ c.in_default-as_stored.is c.refused-in_default-as_stored.ensures
 
 pub with_value-requires : goal.with_value-requires
-with_value-requires c = (found_held _ _ _ (sym c.find.ensures ∙ c.in-At.is)).under
+with_value-requires c = (found_held _ _ _ (sym c.find.ensures ∙ c.in-Some.is)).under
 
 pub returns : goal.returns
 returns c =
-    set_done _ _ _ _ (found_held _ _ _ (sym c.find.ensures ∙ c.in-At.is)) _ c.register_at-register.ensures _
-    c.as_stored.ensures _ _ c.in-As.is c.with_value.ensures
+    set_done _ _ _ _ (found_held _ _ _ (sym c.find.ensures ∙ c.in-Some.is)) _ c.register_at-register.ensures _
+    c.as_stored.ensures _ _ c.in-Ok.is c.with_value.ensures

@@ -16,12 +16,5 @@ looked c =
     position_from_yields_List (is_numbered c.args.number) _ _ c.position.result c.position.ensures.ran
     (YieldsList-from_slice (take c.held_count.result c.args.bench.registers) cc) (λ x b q k. search (rules, tests))
 
-pub returns-in-Some : goal.returns-in-Some
-returns-in-Some c =
-    let found = looked (goal.at.returns-in-Some c).After-position in
-    answered c.args.bench c.args.number _ c.held_count.ensures (omega (arith, c.held_count.ensures)) (rw c.in-Some.is at found)
-
-pub returns-in-None : goal.returns-in-None
-returns-in-None c =
-    let found = looked (goal.at.returns-in-None c).After-position in
-    answered c.args.bench c.args.number _ c.held_count.ensures (omega (arith, c.held_count.ensures)) (rw c.in-None.is at found)
+pub returns : goal.returns
+returns c = answered c.args.bench c.args.number _ c.held_count.ensures (omega (arith, c.held_count.ensures)) (looked (goal.at.returns c).After-position)

@@ -6,10 +6,10 @@ use Rattle.bench.proofs.Places.{found_held}
 use Rattle.bench.proofs.held.look.Goals as goal
 
 pub register_at-requires : goal.register_at-requires
-register_at-requires c = (found_held _ _ _ (sym c.find.ensures ∙ c.in-At.is)).under
+register_at-requires c = (found_held _ _ _ (sym c.find.ensures ∙ c.in_ok-place.was)).under
 
-pub returns-in-At : goal.returns-in-At
-returns-in-At c = seen_held _ _ _ (sym c.find.ensures ∙ c.in-At.is) _ c.register_at.ensures
+pub returns : goal.returns
+returns c = seen_held _ _ _ (sym c.find.ensures ∙ c.in_ok-place.was) _ c.register_at.ensures
 
-pub returns-in-Nowhere : goal.returns-in-Nowhere
-returns-in-Nowhere c = seen_not _ _ (sym c.find.ensures ∙ c.in-Nowhere.is)
+pub returns-in_err-place : goal.returns-in_err-place
+returns-in_err-place c = rw c.from_residual.ensures (seen_not _ _ (sym c.find.ensures ∙ c.in_err-place.was))

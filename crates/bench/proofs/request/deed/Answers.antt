@@ -6,10 +6,10 @@ use Rattle.bench.proofs.Places.{found_held}
 use Rattle.bench.proofs.request.deed.Goals as goal
 
 pub register_at-requires : goal.register_at-requires
-register_at-requires c = (found_held _ _ _ (sym c.find.ensures ∙ c.in-At.is)).under
+register_at-requires c = (found_held _ _ _ (sym c.find.ensures ∙ c.in-Some.is)).under
 
-pub returns-in-At : goal.returns-in-At
-returns-in-At c = deed_held _ _ _ _ _ _ (sym c.find.ensures ∙ c.in-At.is) c.register_at.ensures c.held_deed.ensures
+pub returns-in-Some : goal.returns-in-Some
+returns-in-Some c = deed_held _ _ _ _ _ _ (sym c.find.ensures ∙ c.in-Some.is) c.register_at.ensures c.held_deed.ensures
 
-pub returns-in-Nowhere : goal.returns-in-Nowhere
-returns-in-Nowhere c = deed_unknown _ _ _ _ (sym c.find.ensures ∙ c.in-Nowhere.is) c.nack.ensures
+pub returns-in-None : goal.returns-in-None
+returns-in-None c = deed_unknown _ _ _ _ (sym c.find.ensures ∙ c.in-None.is) c.nack.ensures

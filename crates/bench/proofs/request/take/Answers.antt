@@ -13,14 +13,14 @@ returns-in_default c =
 
 pub slice_bounds-request-end : goal.slice_bounds-request-end
 slice_bounds-request-end c =
-    let h = size_fits _ _ (sym c.read-reading.ensures.0 ∙ c.in-Telegram.is) in
+    let h = size_fits _ _ (sym c.read-reading.ensures.0 ∙ c.in-Ok.is) in
     search rules
 
 pub request-requires : goal.request-requires
-request-requires c = addressed _ _ (sym c.read-reading.ensures.0 ∙ c.in-Telegram.is)
+request-requires c = addressed _ _ (sym c.read-reading.ensures.0 ∙ c.in-Ok.is)
 
 pub returns : goal.returns
 returns c =
-    let read = sym c.read-reading.ensures.0 ∙ c.in-Telegram.is in
+    let read = sym c.read-reading.ensures.0 ∙ c.in-Ok.is in
     taken _ _ read _ _ c.args.room.now _ _ (data_read _ _ read _ _ refl c.read-reading.ensures.1)
     c.request.ensures

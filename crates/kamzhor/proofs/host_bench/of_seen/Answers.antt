@@ -2,8 +2,8 @@
 -- Assumes nothing.
 use Rattle.kamzhor.proofs.host_bench.of_seen.Goals as goal
 
-pub returns-in-Held : goal.returns-in-Held
-returns-in-Held c = rw c.in-Held.is
+pub returns-in-Some : goal.returns-in-Some
+returns-in-Some c = rw c.in-Some.is
 
-pub returns-in-NotHeld : goal.returns-in-NotHeld
-returns-in-NotHeld c = rw c.in-NotHeld.is
+pub returns-in-None : goal.returns-in-None
+returns-in-None c = rw c.in-None.is

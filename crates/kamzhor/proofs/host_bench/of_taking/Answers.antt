@@ -2,8 +2,8 @@
 -- Assumes nothing.
 use Rattle.kamzhor.proofs.host_bench.of_taking.Goals as goal
 
-pub returns-in-Silent : goal.returns-in-Silent
-returns-in-Silent c = rw (c.in-Silent.is, c.number.ensures, c.place.ensures)
+pub returns-in-Err : goal.returns-in-Err
+returns-in-Err c = rw (c.in-Err.is, c.number.ensures, c.place.ensures)
 
-pub returns-in-Answered : goal.returns-in-Answered
-returns-in-Answered c = rw c.in-Answered.is
+pub returns-in-Ok : goal.returns-in-Ok
+returns-in-Ok c = rw c.in-Ok.is

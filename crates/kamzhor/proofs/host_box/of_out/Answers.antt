@@ -2,8 +2,8 @@
 -- Assumes nothing.
 use Rattle.kamzhor.proofs.host_box.of_out.Goals as goal
 
-pub returns-in-Nothing : goal.returns-in-Nothing
-returns-in-Nothing c = rw c.in-Nothing.is
+pub returns-in-None : goal.returns-in-None
+returns-in-None c = rw c.in-None.is
 
-pub returns-in-Edge : goal.returns-in-Edge
-returns-in-Edge c = rw (c.in-Edge.is, c.of_pass.ensures)
+pub returns-in-Some : goal.returns-in-Some
+returns-in-Some c = rw (c.in-Some.is, c.of_pass.ensures)

@@ -2,8 +2,8 @@
 -- Assumes nothing.
 use Rattle.kamzhor.proofs.host_sheet.of_writing.Goals as goal
 
-pub returns-in-Refused : goal.returns-in-Refused
-returns-in-Refused c = rw (c.in-Refused.is, c.no_size.ensures, c.number.ensures)
+pub returns-in-Err : goal.returns-in-Err
+returns-in-Err c = rw (c.in-Err.is, c.no_size.ensures, c.number.ensures)
 
-pub returns-in-Written : goal.returns-in-Written
-returns-in-Written c = rw (c.in-Written.is, c.size_of.ensures)
+pub returns-in-Ok : goal.returns-in-Ok
+returns-in-Ok c = rw (c.in-Ok.is, c.size_of.ensures)

@@ -1,3 +1,4 @@
+use Rattle.std.specs.Prelude.{Ok, Some, None}
 use mathlib.Core.Path.{sym, ap, ap₂, ◌∙◌}
 use Prim.Native.Nat.{◌+◌, ◌-◌}
 use lib.ListN.{take, drop}
@@ -5,7 +6,6 @@ use Rattle.lines.specs.declared.Event.{Event}
 use Rattle.lines.specs.declared.Event.TheVariants.{Dropped}
 use Rattle.listing.specs.Events.{placed}
 use Rattle.receiver.specs.declared.Receiver.{Receiver}
-use Rattle.receiver.specs.declared.Answer.TheVariants.{Nothing, Line}
 use Rattle.receiver.specs.Receiver.{stepped}
 use Rattle.receiver.specs.Parts.{grown_by}
 use Rattle.receiver.proofs.Returns.{rest_fits}
@@ -16,7 +16,7 @@ pub returns-then-chunk-at : goal.returns-then-chunk-at
 returns-then-chunk-at c =
     let args = c.args in
     let found = c.next_start-at in
-    ap (λ (r : Receiver). stepped r found.result Nothing) c.passed.ensures
+    ap (λ (r : Receiver). stepped r found.result (Ok None)) c.passed.ensures
     ∙ sym (passes_all args.receiver args.chunk.now c.requires.1 found.result found.ensures.0 c.if-chunk-at.true found.ensures.1)
 
 pub grown-requires : goal.grown-requires
@@ -29,7 +29,7 @@ pub returns-then-chunk-end : goal.returns-then-chunk-end
 returns-then-chunk-end c =
     let found = c.next_start-at in
     let rest = take (c.next_end-end.result - (found.result + 1)) (drop (found.result + 1) c.args.chunk.now) in
-    ap (λ (r : Receiver). stepped r c.next_end-end.result Nothing) (c.grown.ensures ∙ ap (λ (r : Receiver). grown_by r rest) c.opened.ensures)
+    ap (λ (r : Receiver). stepped r c.next_end-end.result (Ok None)) (c.grown.ensures ∙ ap (λ (r : Receiver). grown_by r rest) c.opened.ensures)
     ∙ sym (opens_frame c.args.receiver c.args.chunk.now c.requires.1 found.result found.ensures.0 c.if-chunk-at.false c.next_end-end.result
     c.next_end-end.ensures.0 c.if-chunk-end.true c.next_end-end.ensures.1)
 
@@ -37,7 +37,7 @@ pub returns-then-chunk-end-eq-START : goal.returns-then-chunk-end-eq-START
 returns-then-chunk-end-eq-START c =
     let found = c.next_start-at in
     c.ended.ensures
-    ∙ ap (λ (r : Receiver). stepped r (c.next_end-end.result + 1) (Line (placed (c.args.receiver.place + found.result) Dropped))) c.opened-then-chunk-end-eq-START.ensures
+    ∙ ap (λ (r : Receiver). stepped r (c.next_end-end.result + 1) (Ok (Some (placed (c.args.receiver.place + found.result) Dropped)))) c.opened-then-chunk-end-eq-START.ensures
     ∙ sym (drops_frame c.args.receiver c.args.chunk.now c.requires.1 found.result found.ensures.0 c.if-chunk-at.false c.next_end-end.result
     c.next_end-end.ensures.0 c.if-chunk-end.false c.if-chunk-end-eq-START.true)
 
@@ -45,7 +45,7 @@ pub returns : goal.returns
 returns c =
     let found = c.next_start-at in
     c.ended-2.ensures
-    ∙ ap₂ (λ (r : Receiver) (e : Event). stepped r (c.next_end-end.result + 1) (Line (placed (c.args.receiver.place + found.result) e)))
+    ∙ ap₂ (λ (r : Receiver) (e : Event). stepped r (c.next_end-end.result + 1) (Ok (Some (placed (c.args.receiver.place + found.result) e))))
     c.fresh.ensures c.read.ensures
     ∙ sym (reads_frame c.args.receiver c.args.chunk.now c.requires.1 found.result found.ensures.0 c.if-chunk-at.false c.next_end-end.result
     c.next_end-end.ensures.0 c.if-chunk-end.false c.if-chunk-end-eq-START.false)

@@ -1,4 +1,5 @@
 use mathlib.Core.Path.{refl, sym, ◌∙◌}
+use Rattle.std.proofs.lemmas.Result.{err_from_is_err_and}
 use Rattle.sheet_line.specs.Words.{words_in}
 use Rattle.sheet_line.proofs.Saying.{no_word, few_words, no_number, head_wrong, head_right, values_said}
 use Rattle.sheet_line.proofs.reading.read_words.Goals as goal
@@ -24,22 +25,23 @@ read_values-requires c =
     let many = c.count_words-many.ensures.0 in
     let words = words_in c.args.text.now in
     let four = c.first_four-four.ensures in
-    let told = sym c.in-Right.is ∙ c.judge.ensures words four.says many in
+    let told = sym c.in_ok-head.was ∙ c.judge.ensures words four.says many in
     record { behind_head = four.goes_on; headed = head_right words 0 many c.if-many-eq0.false c.if-many-lt4.false c.first_wrong-wrong.ensures.0 c.if-wrong-many.false _ told }
 
-pub returns-in-Wrong : goal.returns-in-Wrong
-returns-in-Wrong c =
+pub returns-in_err-head : goal.returns-in_err-head
+returns-in_err-head c =
     let many = c.count_words-many.ensures.0 in
     let words = words_in c.args.text.now in
     let four = c.first_four-four.ensures in
-    let told = sym c.in-Wrong.is ∙ c.judge.ensures words four.says many in
-    record { answer = head_wrong words _ many c.if-many-eq0.false c.if-many-lt4.false c.first_wrong-wrong.ensures.0 c.if-wrong-many.false _ told; stored = refl }
+    let told = sym c.in_err-head.was ∙ c.judge.ensures words four.says many in
+    let p = err_from_is_err_and c.from_residual.result c.from_residual.ensures.1 in
+    rw (p.1, p.2) (record { answer = head_wrong words _ many c.if-many-eq0.false c.if-many-lt4.false c.first_wrong-wrong.ensures.0 c.if-wrong-many.false _ told; stored = refl })
 
-pub returns-in-Right : goal.returns-in-Right
-returns-in-Right c =
+pub returns : goal.returns
+returns c =
     let many = c.count_words-many.ensures.0 in
     let words = words_in c.args.text.now in
     let four = c.first_four-four.ensures in
-    let told = sym c.in-Right.is ∙ c.judge.ensures words four.says many in
+    let told = sym c.in_ok-head.was ∙ c.judge.ensures words four.says many in
     let read = c.read_values.ensures in
     record { answer = values_said words _ many c.if-many-eq0.false c.if-many-lt4.false c.first_wrong-wrong.ensures.0 c.if-wrong-many.false _ told read.answer; stored = read.stored }
