@@ -114,7 +114,7 @@ class Call:
         named = re.match(r"\s*([A-Z]\w*)\s", relation)
         self.contract = named.group(1) if named and not re.search(r"[≡×⊎→]", relation) else None
         # what the relation must speak of: all that is given, each lent buffer as it is afterwards, and the answer where there is one
-        given = re.findall(r"[(,]\s*(?:mut\s+)?(\w+)\s*:", said.split("ensures")[0])
+        given = re.findall(r"[(,]\s*(?:mut\s+)?(\w+)\s*:(?!:)", said.split("ensures")[0])
         lent = [f"{room}.new" for room in re.findall(r"(\w+):\s*&\s*mut\b", said)]
         self.unsaid = [part for part in given + lent + [answer] * ("->" in said) if not re.search(rf"\b{part}\b", relation)]
         # and what it may speak of: each of these as it is, or what a definition of a specs/ makes of it, but no number and no sum
