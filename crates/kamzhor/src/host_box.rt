@@ -206,13 +206,10 @@ fn meant_out(out: HostOut) -> Option<varia::Sent>
 fn of_ask(after: varia::AfterAsk) -> AfterBoxAsk
     ensures { result ≡ ask_told after }
 {
-    let filters = after.filters;
-    let desk = after.desk;
-    let answer = after.answer;
     AfterBoxAsk {
-        filters: of_box(filters),
-        desk,
-        answer: of_asking(answer, after.count),
+        filters: of_box(after.filters),
+        desk: after.desk,
+        answer: of_asking(after.answer, after.count),
     }
 }
 

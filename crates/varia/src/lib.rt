@@ -7,7 +7,9 @@ ghost use Rattle.varia.specs.Ask.{SetsEdge, Attenuates, ReadsMonitor, ReadsStatu
 ghost use Rattle.varia.specs.Display.{Displays, TellsMoving};
 ghost use Rattle.desk.specs.Open.{Opens};
 ghost use Rattle.values.specs.Values.{bytes_of};
-ghost use Rattle.std.specs.Prelude.{◌≡◌, []};
+ghost use Rattle.std.specs.Prelude.{◌≡◌, [], MatchResult};
+ghost use Rattle.std.proofs.Math.Option.{none, some};
+ghost use Rattle.varia.specs.Box.{edge_refusal};
 ghost use Rattle.varia.specs.declared.Pass.TheVariants.{Short, Long};
 
 pub use desk::Desk;
@@ -139,7 +141,7 @@ pub fn set_long(
     set_edge(filters, desk, Pass::Long, tenths, wait, clock, room)
 }
 
-// Rows 59 and 63, and then the desk. A refusal leaves the box, the desk and every byte of the room.
+// A refusal of the box, and then the desk. A refusal leaves the box, the desk and every byte of the room.
 fn set_edge(
     filters: FilterBox,
     desk: Desk,
@@ -151,11 +153,8 @@ fn set_edge(
 ) -> AfterAsk
     ensures { SetsEdge pass filters desk tenths wait clock room.old result room.new }
 {
-    if is_out(filters) {
-        return refused(filters, desk, Fault::EdgeOut);
-    }
-    if out_of_order(pass, tenths, opposite(filters, pass)) {
-        return refused(filters, desk, Fault::OutOfOrder);
+    if let Err(fault) = judge(filters, pass, tenths) {
+        return refused(filters, desk, fault);
     }
     let after = write(
         filters,
@@ -166,9 +165,21 @@ fn set_edge(
         clock,
         room,
     );
-    let answer = after.answer;
-    let next = now_out(filters, pass, tenths, answer);
-    passed_on(next, after)
+    let next = now_out(filters, pass, tenths, after.answer);
+    passed_on(next, &after)
+}
+
+// Rows 59 and 63: why no edge is asked for.
+fn judge(filters: FilterBox, pass: Pass, tenths: u16) -> Result<(), Fault>
+    ensures { MatchResult result (λ _. edge_refusal filters pass tenths ≡ none) (λ fault. edge_refusal filters pass tenths ≡ some fault) }
+{
+    if is_out(filters) {
+        return Err(Fault::EdgeOut);
+    }
+    if out_of_order(pass, tenths, opposite(filters, pass)) {
+        return Err(Fault::OutOfOrder);
+    }
+    Ok(())
 }
 
 // Asks for an attenuation, in permille.
@@ -186,7 +197,7 @@ pub fn attenuate(
         return refused(filters, desk, Fault::TooMuch);
     }
     let after = write(filters, desk, ATTENUATION, permille, wait, clock, room);
-    passed_on(filters, after)
+    passed_on(filters, &after)
 }
 
 // Asks for the monitor's reading.
@@ -200,7 +211,7 @@ pub fn read_monitor(
     ensures { ReadsMonitor filters desk wait clock room.old result room.new }
 {
     let after = read(filters, desk, MONITOR, wait, clock, room);
-    passed_on(filters, after)
+    passed_on(filters, &after)
 }
 
 // Asks for the status bits.
@@ -214,7 +225,7 @@ pub fn read_status(
     ensures { ReadsStatus filters desk wait clock room.old result room.new }
 {
     let after = read(filters, desk, STATUS, wait, clock, room);
-    passed_on(filters, after)
+    passed_on(filters, &after)
 }
 
 // Opens a ticket to write a number into a register of the box's module.
@@ -268,8 +279,8 @@ fn asked(filters: FilterBox, sort: u8, register: u8, wait: u32) -> Request
 }
 
 // What the desk answered, passed up whole.
-fn passed_on(filters: FilterBox, after: AfterOpen) -> AfterAsk
-    ensures { Passes filters after result }
+fn passed_on(filters: FilterBox, after: &AfterOpen) -> AfterAsk
+    ensures { Passes filters after.now result }
 {
     AfterAsk {
         filters,
@@ -301,10 +312,10 @@ fn now_out(
     ensures { result ≡ now_out filters pass tenths answer }
 {
     match answer {
-        Ok(Opened { address, .. }) => with_out(
+        Ok(opened) => with_out(
             filters,
             Some(Sent {
-                address,
+                address: opened.address,
                 pass,
                 tenths,
             }),
@@ -390,37 +401,23 @@ pub fn told_closing(filters: FilterBox, answer: Result<Closed, desk::Fault>) -> 
 fn with_out(filters: FilterBox, out: Option<Sent>) -> FilterBox
     ensures { result ≡ with_out filters out }
 {
-    let short = filters.short;
-    let long = filters.long;
-    FilterBox {
-        job: filters.job,
-        unit: filters.unit,
-        short,
-        long,
-        out,
-    }
+    FilterBox { out, ..filters }
 }
 
 // The box with that edge, and nothing out any more.
 fn with_edge(filters: FilterBox, pass: Pass, edge: Option<u16>) -> FilterBox
     ensures { result ≡ with_edge filters pass edge }
 {
-    let short = filters.short;
-    let long = filters.long;
     match pass {
         Pass::Short => FilterBox {
-            job: filters.job,
-            unit: filters.unit,
             short: edge,
-            long,
             out: None,
+            ..filters
         },
         Pass::Long => FilterBox {
-            job: filters.job,
-            unit: filters.unit,
-            short,
             long: edge,
             out: None,
+            ..filters
         },
     }
 }
