@@ -16,7 +16,6 @@ use Rattle.rows.proofs.Laws.{clash}
 use Rattle.deeds.specs.declared.Register.{Register}
 use Rattle.bench.specs.Register.{no_register, register_at, held_count, place_of, is_held, found_at, found}
 use Rattle.bench.specs.declared.Bench.{Bench}
-use Rattle.bench.specs.Answers.{Found}
 
 -- ---- the search: a register is held at the first place that has its number
 

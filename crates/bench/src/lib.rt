@@ -49,6 +49,7 @@ pub struct AfterBuild {
 #[derive(Clone, Copy)]
 pub struct AfterTake {
     pub bench: Bench,
+    // how long the reply is, or why the bench keeps silent
     pub answer: Result<usize, Fault>,
 }
 
@@ -77,15 +78,6 @@ pub fn place(fault: Fault) -> usize
 {
     match fault {
         Fault::Unread(why) => telegram::place(why),
-        Fault::WrongKind => 0,
-        Fault::WrongRights => 0,
-        Fault::AlreadyThere => 0,
-        Fault::Full => 0,
-        Fault::NotAModule => 0,
-        Fault::OtherAddress => 0,
-        Fault::NotARequest => 0,
-        Fault::NoRoom => 0,
-        Fault::NotHeld => 0,
-        Fault::DoesNotFit => 0,
+        _ => 0,
     }
 }

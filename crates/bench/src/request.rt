@@ -47,14 +47,10 @@ fn request(bench: Bench, t: Fields, bytes: &[u8], room: &mut [u8]) -> AfterTake
 fn is_answer(sort: u8) -> bool
     ensures { result ≡ is_answer sort }
 {
-    match sort {
-        telegram::NACK
-        | telegram::CHECK_ERROR
-        | telegram::BUSY
-        | telegram::ACK
-        | telegram::DATAGRAM => true,
-        _ => false,
-    }
+    matches!(
+        sort,
+        telegram::NACK | telegram::CHECK_ERROR | telegram::BUSY | telegram::ACK | telegram::DATAGRAM
+    )
 }
 
 // Row 37: the reply is written where there is room for it, and only then is the deed done.

@@ -64,10 +64,10 @@ pub fn nack(value: u64) -> Deed
 fn is_bit_write(sort: u8) -> bool
     ensures { result ≡ is_bit_write sort }
 {
-    match sort {
-        telegram::SET_BITS | telegram::CLEAR_BITS | telegram::TOGGLE_BITS => true,
-        _ => false,
-    }
+    matches!(
+        sort,
+        telegram::SET_BITS | telegram::CLEAR_BITS | telegram::TOGGLE_BITS
+    )
 }
 
 // The value after a bit write.

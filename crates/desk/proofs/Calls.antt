@@ -1,16 +1,16 @@
 -- What each return of the calls gives, over plain numbers, tickets and desks.
 -- Assumes nothing.
 use Rattle.desk.specs.Answers.{opening}
-use Rattle.std.specs.Prelude.{Ok, Err}
+use Rattle.std.specs.Prelude.{Ok, Err, Option as Maybe, Some, None, is_some}
+use Rattle.std.proofs.lemmas.Option.{cond_some, none-some}
 use mathlib.Core.Path.{◌≡◌, refl, sym, ap, ◌∙◌}
 use mathlib.Core.Bool.{Bool, true, false, cond, not, ◌&&◌, true≢false}
 use mathlib.Core.List.{List}
 use mathlib.Core.Logic.{◌≢◌}
 use mathlib.Core.Option.{Option, some, none}
 use Prim.Native.Nat.{ℕ, ◌+◌, ◌-◌, ◌≤◌, ◌<◌}
-use native.Mathlib.Decide.{dec_lt}
 use native.Mathlib.Omega.{arith}
-use borrow.Author.Tests.{leb-true, le-ltb, le-leb, lt-leb, eq-eqb, ne_eqb}
+use borrow.Author.Tests.{leb-true, ltb-true, ltb-false, lt-ltb, le-ltb, le-leb, lt-leb, eq-eqb, ne_eqb}
 use lib.Dec.{eqb, ltb, leb}
 use lib.ListN.{length}
 use Rattle.request.specs.Request.{ask_refusal}
@@ -31,14 +31,14 @@ use Rattle.ticket.specs.declared.Fault.{Fault as Unfit}
 use Rattle.desk.specs.Close.{is_theirs, cancel_refusal, due_place, expire_refusal}
 use Rattle.desk.specs.Open.{place_from, distance_of, given_place, request_at, open_refusal, with_ticket, OpensAt, PlacesAt, Opens}
 use Rattle.desk.specs.Reply.{book_refusal, reply_refusal}
-use Rattle.desk.specs.Desk.{ticket_at, ticket_on}
+use Rattle.desk.specs.Desk.{ticket_at, ticket_on, under}
 use Rattle.desk.specs.Folder.{holder_place, is_folder_held}
 use Rattle.ticket.specs.Rest.{is_free}
 use Rattle.ticket.specs.Ticket.{no_ticket, new_ticket}
 use Rattle.request.specs.declared.Request.{Request}
 use Rattle.ticket.specs.declared.Ticket.{Ticket}
 use Rattle.desk.specs.declared.Desk.{Desk}
-use Rattle.desk.specs.declared.Fault.TheVariants.{Denied, FolderHeld, NoRoom, Unread, Misfit, NotTheirs, NothingDue}
+use Rattle.desk.specs.declared.Fault.TheVariants.{Denied, FolderHeld, NoneFree, NoRoom, Unread, Misfit, NotTheirs, NothingDue}
 use Rattle.desk.specs.declared.AfterOpen.{AfterOpen}
 
 -- ---- tickets
@@ -51,19 +51,48 @@ live_host desk address e = go (leb 161 address) refl e
     go true p q = leb-true 161 address p
     go false p q = absurd (true≢false (sym q))
 
--- a search over all 95 places
-pub found : (fits : ℕ → Bool) (k : ℕ) → ((i : ℕ) → i < k → fits i ≡ false) → (k < 95 → fits k ≡ true) → k ≤ 95 → k ≡ first_place fits 95
-found fits k before there within = go (dec_lt k 95)
+-- what is under a most, and what is not
+pub under_told : (most n k : ℕ) → under most n ≡ Some k → (k ≡ n) × (k < most)
+unfolding under
+under_told most n k e = let p = cond_some (ltb n most) n k e in (sym p.1, omega (arith, ltb-true n most p.0, p.1))
+
+pub over_told : (most n : ℕ) → under most n ≡ None → most ≤ n
+unfolding under
+over_told most n e = go (ltb n most) refl e
   where
-    go : Dec (k < 95) → k ≡ first_place fits 95
-    go (yes h) = sym (first_at fits 95 k h before (there h))
-    go (no h) = let e : k ≡ 95 = omega arith in e ∙ sym (first-none fits 95 (rw e at before))
+    go : (t : Bool) → ltb n most ≡ t → ◌≡◌ {A = Maybe ℕ} (cond t (Some n) None) None → most ≤ n
+    go true p q = absurd (none-some n (sym q))
+    go false p q = ltb-false n most p
+
+pub under_some : (most n : ℕ) → n < most → Some n ≡ under most n
+unfolding under
+under_some most n h = rw (lt-ltb n most h) refl
+
+pub under_none : (most n : ℕ) → most ≤ n → None ≡ under most n
+unfolding under
+under_none most n h = rw (le-ltb n most h) refl
+
+some_under : (most n : ℕ) → is_some (under most n) ≡ ltb n most
+unfolding under
+some_under most n = go (ltb n most)
+  where
+    go : (t : Bool) → is_some (cond t (Some n) None) ≡ t
+    go true = refl
+    go false = refl
+
+-- a search over all 95 places
+pub found : (fits : ℕ → Bool) (r : Maybe ℕ) → ((k : ℕ) → r ≡ Some k → (k < 95) × (fits k ≡ true)) → ((k : ℕ) → r ≡ Some k → (i : ℕ) → i < k → fits i ≡ false)
+    → (r ≡ None → (i : ℕ) → i < 95 → fits i ≡ false) → r ≡ under 95 (first_place fits 95)
+found fits (Some k) there before nowhere =
+    let t = there k refl in
+    under_some 95 k t.0 ∙ ap (under 95) (sym (first_at fits 95 k t.0 (before k refl) t.1))
+found fits None there before nowhere = under_none 95 (first_place fits 95) (rw (first-none fits 95 (nowhere refl)) (omega arith))
 
 -- the search from the turn has come to a free place
 pub free_found : (desk : Desk) (clock k : ℕ) → k < 95 → ((i : ℕ) → i < k → is_free clock (ticket_at desk (place_from desk.turn i)) ≡ false)
-    → is_free clock (ticket_at desk (place_from desk.turn k)) ≡ true → k ≡ distance_of desk clock
+    → is_free clock (ticket_at desk (place_from desk.turn k)) ≡ true → Some k ≡ under 95 (distance_of desk clock)
 unfolding distance_of
-free_found desk clock k h before free = sym (first_at (λ i. is_free clock (ticket_at desk (place_from desk.turn i))) 95 k h before free)
+free_found desk clock k h before free = under_some 95 k h ∙ ap (under 95) (sym (first_at (λ i. is_free clock (ticket_at desk (place_from desk.turn i))) 95 k h before free))
 
 -- ---- opening
 
@@ -77,6 +106,11 @@ pub open_held : (desk : Desk) (asked : Request) (bytes : List ℕ) (clock room :
 unfolding open_refusal
 open_held desk asked bytes clock room e held = rw (e, held)
 
+pub open_full : (desk : Desk) (asked : Request) (bytes : List ℕ) (clock room : ℕ) → ask_refusal asked bytes ≡ none → is_folder_held desk asked ≡ false
+    → 95 ≤ distance_of desk clock → open_refusal desk asked bytes clock room ≡ some NoneFree
+unfolding open_refusal
+open_full desk asked bytes clock room e free far = rw (e, free, le-leb 95 (distance_of desk clock) far) refl
+
 pub open_allowed : (desk : Desk) (asked : Request) (bytes : List ℕ) (clock : ℕ) (room : List ℕ) (r : AfterOpen) (room' : List ℕ) (d : ℕ)
     → ask_refusal asked bytes ≡ none → is_folder_held desk asked ≡ false → d ≡ distance_of desk clock
     → PlacesAt desk d asked bytes clock room r room' → Opens desk asked bytes clock room r room'
@@ -88,9 +122,10 @@ pub folder_none : (desk : Desk) (asked : Request) → asked.folder ≡ 0 → not
 unfolding is_folder_held
 folder_none desk asked e = rw (eq-eqb asked.folder 0 e)
 
-pub folder_by : (desk : Desk) (asked : Request) (k : ℕ) → asked.folder ≢ 0 → k ≡ holder_place desk asked.job asked.folder → ltb k 95 ≡ is_folder_held desk asked
+pub folder_by : (desk : Desk) (asked : Request) (r : Maybe ℕ) → asked.folder ≢ 0 → r ≡ under 95 (holder_place desk asked.job asked.folder)
+    → is_some r ≡ is_folder_held desk asked
 unfolding is_folder_held
-folder_by desk asked k n e = rw (ne_eqb asked.folder 0 n, e)
+folder_by desk asked r n e = rw (ne_eqb asked.folder 0 n) (ap is_some e ∙ some_under 95 (holder_place desk asked.job asked.folder))
 
 -- the writer can only lack room
 pub only_room : (d s t r : ℕ) (bytes : List ℕ) (room : ℕ) → length bytes ≤ 240 → d ≢ 0 → s ≢ 0 → t ≤ 9

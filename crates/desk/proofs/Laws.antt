@@ -230,7 +230,7 @@ closes_alone desk address left shut live =
       turn_kept = refl;
     }
 
--- 02, #102: "booking replies still free the address at once."
+-- 02, #102: "Booked replies still free the address at once."
 pub answers_alone : (desk : Desk) (address : ℕ) → OpenOn desk address → ClosedAlone desk address no_ticket (answered_on desk address)
 answers_alone desk address = closes_alone desk address no_ticket refl
 

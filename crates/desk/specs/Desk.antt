@@ -1,7 +1,7 @@
 -- The desk: what stands on each host address, 161 to 255, and the turn. A place is an address less 161, and so is the turn. 02, #112: "Keep
 -- beside them one bit for each address, set while it holds a ticket".
 -- Assumes nothing.
-use Rattle.std.specs.Prelude.{◌≡◌, Bool, false, true, cond, List, [], ◌∷◌, ℕ, suc, ◌-◌, leb, get_or, replicate, set}
+use Rattle.std.specs.Prelude.{◌≡◌, Bool, false, true, cond, List, [], ◌∷◌, ℕ, suc, ◌-◌, leb, ltb, get_or, replicate, set, Option, Some, None}
 use Rattle.marks.specs.Marks.{no_marks, is_marked, with_mark}
 use Rattle.marks.specs.declared.Marks.{Marks}
 use Rattle.request.specs.Request.{fault_number as ask_number}
@@ -49,6 +49,10 @@ ticket_on desk address = address_in (standing desk) address
 -- a ticket is open on the address
 abbrev pub OpenOn : Desk → ℕ → Type 0
 OpenOn desk address = Open (ticket_on desk address)
+
+-- a number below the most, and none from there on
+unfoldable pub under : ℕ → ℕ → Option ℕ
+under most n = cond (ltb n most) (Some n) None
 
 -- the desk with something else at a place, with this turn and these marks
 abbrev pub stored_at : Desk → ℕ → ℕ → Ticket → Marks → Desk

@@ -136,7 +136,7 @@ PassesBy marks ticket place clock r =
     × (r ≡ 0 → (is_marked marks place ≡ false) × (is_resting clock ticket ≡ false))
     × ((k : ℕ) → k < r → (is_marked marks (place + k) ≡ true) ⊎ ((k ≡ 0) × (is_resting clock ticket ≡ true)))
 
--- `open_at`: rows 15 and 16 and the opening, at any distance from the turn
+-- rows 15 and 16 and the opening, at any distance from the turn. `open_at` is called at one under 95 alone: 15 was told before
 abbrev pub PlacesAt : Desk → ℕ → Request → List ℕ → ℕ → List ℕ → AfterOpen → List ℕ → Type 0
 PlacesAt desk distance asked bytes clock room r room' =
     OpensAt (first_row_of (place_tests distance (request_at (place_from desk.turn distance) asked bytes) (length room))) desk

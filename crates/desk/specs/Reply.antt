@@ -52,7 +52,7 @@ abbrev pub book_place : Booking → ℕ
 book_place (Err f) = fault_place f
 book_place (Ok booked) = 0
 
--- the desk without the ticket that was answered. 02, #102: "booking replies still free the address at once."
+-- the desk without the ticket that was answered. 02, #102: "Booked replies still free the address at once."
 abbrev pub answered_on : Desk → ℕ → Desk
 answered_on desk address = put_at desk (address - 161) no_ticket
 

@@ -2,14 +2,14 @@
 // on the one ticket that is open on its address, or refused. specs/ says what each call answers.
 #![tactic(auto)]
 
-ghost use Rattle.desk.specs.Desk.{Fresh, Looks, Numbers, Places, Stands, live_as, stored_at, put_at, ticket_at};
+ghost use Rattle.desk.specs.Desk.{Fresh, Looks, Numbers, Places, Stands, live_as, stored_at, put_at, ticket_at, under};
 ghost use Rattle.marks.specs.Marks.{is_marked};
 ghost use Rattle.desk.specs.Folder.{holder_place, is_folder_held};
 ghost use Rattle.desk.specs.Open.{Opens, PassesBy, PlacesAt, distance_of, with_ticket};
 ghost use Rattle.desk.specs.Reply.{Replies, answered_on};
 ghost use Rattle.desk.specs.Close.{Cancels, Expires, Withdraws, due_place, is_theirs};
 ghost use Rattle.ticket.specs.Ticket.{withdrawn_at};
-ghost use Rattle.std.specs.Prelude.{◌≡◌, ◌≢◌, ◌≤◌, ◌<◌, ℕ, false, true, length};
+ghost use Rattle.std.specs.Prelude.{◌≡◌, ◌≢◌, ◌≤◌, ◌<◌, ℕ, Some, None, false, true, length};
 
 use marks::Marks;
 pub use request::Request;
@@ -165,33 +165,38 @@ pub fn look(desk: Desk, address: u8) -> Seen
 pub fn open(desk: Desk, asked: Request, data: &[u8], clock: u32, room: &mut [u8]) -> AfterOpen
     ensures { Opens desk asked «data».now clock room.old result room.new }
 {
-    match request::judge(asked, data) {
-        Err(fault) => AfterOpen {
+    if let Err(fault) = request::judge(asked, data) {
+        return AfterOpen {
             desk,
             answer: Err(Fault::Denied(fault)),
             count: 0,
-        },
-        Ok(()) => {
-            if is_folder_held(desk, asked) {
-                return AfterOpen {
-                    desk,
-                    answer: Err(Fault::FolderHeld),
-                    count: 0,
-                };
-            }
-            open_at(desk, free_distance(desk, clock), asked, data, clock, room)
-        },
+        };
     }
+    if is_folder_held(desk, asked) {
+        return AfterOpen {
+            desk,
+            answer: Err(Fault::FolderHeld),
+            count: 0,
+        };
+    }
+    let Some(distance) = free_distance(desk, clock) else {
+        return AfterOpen {
+            desk,
+            answer: Err(Fault::NoneFree),
+            count: 95,
+        };
+    };
+    open_at(desk, distance, asked, data, clock, room)
 }
 
 // Whether an open ticket of another job holds the folder that is asked for. 0 is no folder.
 fn is_folder_held(desk: Desk, asked: Request) -> bool
     ensures { result ≡ is_folder_held desk asked }
 {
-    asked.folder != 0 && holder_place(desk, asked.job, asked.folder) < 95
+    asked.folder != 0 && holder_place(desk, asked.job, asked.folder).is_some()
 }
 
-// Rows 15 and 16, and the opening itself, at a distance from the turn.
+// Row 16, and the opening itself, at a distance from the turn.
 fn open_at(
     desk: Desk,
     distance: u8,
@@ -200,16 +205,10 @@ fn open_at(
     clock: u32,
     room: &mut [u8],
 ) -> AfterOpen
-    requires { (length «data».now ≤ 240) × (asked.unit ≢ 0) × (asked.sort ≤ 9) }
+    requires near { distance < 95 }
+    requires writable { (length «data».now ≤ 240) × (asked.unit ≢ 0) × (asked.sort ≤ 9) }
     ensures { PlacesAt desk distance asked «data».now clock room.old result room.new }
 {
-    if 95 <= distance {
-        return AfterOpen {
-            desk,
-            answer: Err(Fault::NoneFree),
-            count: 95,
-        };
-    }
     let place = ((desk.turn as u16 + distance as u16) % 95) as u8;
     let address = 161 + place;
     let count = distance + 1;
@@ -250,24 +249,23 @@ pub fn reply(desk: Desk, frame: &[u8], room: &mut [u8]) -> AfterReply
         };
     };
     let ticket = ticket_on(desk, t.destination);
-    match ticket::judge(ticket, t) {
-        Err(fault) => AfterReply {
+    if let Err(fault) = ticket::judge(ticket, t) {
+        return AfterReply {
             desk,
             answer: Err(Fault::Misfit(fault)),
-        },
-        Ok(()) => {
-            let _ = telegram::read(frame, room);
-            AfterReply {
-                desk: answered_on(desk, t.destination),
-                answer: Ok(Booked {
-                    job: ticket.asked.job,
-                    address: t.destination,
-                    sort: t.sort,
-                    size: t.size,
-                    folder: ticket.asked.folder,
-                }),
-            }
-        }
+        };
+    }
+    let _ = telegram::read(frame, room);
+    let booked = Booked {
+        job: ticket.asked.job,
+        address: t.destination,
+        sort: t.sort,
+        size: t.size,
+        folder: ticket.asked.folder,
+    };
+    AfterReply {
+        desk: answered_on(desk, t.destination),
+        answer: Ok(booked),
     }
 }
 
@@ -302,13 +300,12 @@ fn is_theirs(ticket: Ticket, job: u32) -> bool
 pub fn expire(desk: Desk, clock: u32) -> AfterClose
     ensures { Expires desk clock result }
 {
-    let place = due_place(desk, clock);
-    if 95 <= place {
+    let Some(place) = due_place(desk, clock) else {
         return AfterClose {
             desk,
             answer: Err(Fault::NothingDue),
         };
-    }
+    };
     withdraw(desk, 161 + place, clock)
 }
 
@@ -360,9 +357,9 @@ fn as_marked(ticket: Ticket, marks: Marks, place: u8) -> Ticket
     shown
 }
 
-// How far from the turn the first place is that is free at the clock; 95 where there is none.
-fn free_distance(desk: Desk, clock: u32) -> u8
-    ensures { result ≡ distance_of desk clock }
+// How far from the turn the first place is that is free at the clock.
+fn free_distance(desk: Desk, clock: u32) -> Option<u8>
+    ensures { result ≡ under 95 (distance_of desk clock) }
 {
     let marks = desk.marks;
     let turn = desk.turn as usize;
@@ -372,15 +369,16 @@ fn free_distance(desk: Desk, clock: u32) -> u8
         let at = (turn + k as usize) % 95;
         let passed = passed_by(marks, desk.tickets[at], at as u8, clock);
         if passed == 0 {
-            return k;
+            return Some(k);
         }
         k += passed;
     }
-    95
+    None
 }
 
 // How many places from this one on are not free, as far as is seen at once; 0 where it is free. A run
 // of marks is passed by in one step; of a place that is not marked the rest alone is looked at.
+// A count and no `Option`: `Some(0)` would be a second "free here", which the loop had to exclude.
 fn passed_by(marks: Marks, ticket: Ticket, place: u8, clock: u32) -> u8
     requires { place < 95 }
     ensures { PassesBy marks ticket place clock result }
@@ -399,33 +397,33 @@ fn passed_by(marks: Marks, ticket: Ticket, place: u8, clock: u32) -> u8
     0
 }
 
-// The lowest place with a due ticket; 95 where there is none.
-fn due_place(desk: Desk, clock: u32) -> u8
-    ensures { result ≡ due_place desk clock }
+// The lowest place with a due ticket.
+fn due_place(desk: Desk, clock: u32) -> Option<u8>
+    ensures { result ≡ under 95 (due_place desk clock) }
 {
     place_where(&desk, |ticket| ticket::is_due(ticket, clock))
 }
 
-// The lowest place whose ticket keeps the job off the folder; 95 where there is none.
-fn holder_place(desk: Desk, job: u32, folder: u32) -> u8
-    ensures { result ≡ holder_place desk job folder }
+// The lowest place whose ticket keeps the job off the folder.
+fn holder_place(desk: Desk, job: u32, folder: u32) -> Option<u8>
+    ensures { result ≡ under 95 (holder_place desk job folder) }
 {
     place_where(&desk, |ticket| ticket::bars(ticket, job, folder))
 }
 
-// The lowest place where the test holds of the ticket that stands there; 95 where there is none.
-fn place_where<F: Fn(Ticket) -> bool>(desk: &Desk, holds: F) -> u8
+// The lowest place where the test holds of the ticket that stands there.
+fn place_where<F: Fn(Ticket) -> bool>(desk: &Desk, holds: F) -> Option<u8>
     requires { F.IsAlwaysCallable holds }
-    ensures before { (k : ℕ) → k < result → F.post holds (ticket_at desk.now k) false }
-    ensures there { result < 95 → F.post holds (ticket_at desk.now result) true }
-    ensures within { result ≤ 95 }
+    ensures found { (place : ℕ) → result ≡ Some place → (place < 95) × F.post holds (ticket_at desk.now place) true }
+    ensures before { (place : ℕ) → result ≡ Some place → (k : ℕ) → k < place → F.post holds (ticket_at desk.now k) false }
+    ensures none { result ≡ None → (k : ℕ) → k < 95 → F.post holds (ticket_at desk.now k) false }
 {
     for k in 0..95 {
         if holds(as_marked(desk.tickets[k as usize], desk.marks, k)) {
-            return k;
+            return Some(k);
         }
     }
-    95
+    None
 }
 
 // The ticket stands at the place, and the turn moves to the place after it.

@@ -111,8 +111,5 @@ fn less_64(byte: u8) -> u8
 fn special(byte: u8) -> bool
     ensures { result ≡ is_special byte }
 {
-    match byte {
-        END | START | SUBSTITUTION => true,
-        _ => false,
-    }
+    matches!(byte, END | START | SUBSTITUTION)
 }

@@ -36,13 +36,11 @@ use Rattle.lanes.specs.Lanes as lanes
 use Rattle.lanes.specs.Withdraw as lanes_withdraw
 use Rattle.lanes.specs.declared.Fault as lanes_fault
 use Rattle.lanes.specs.declared.Fault.TheVariants as lanes_faults
-use Rattle.lanes.specs.declared.Turn as granting
 use Rattle.lanes.specs.declared.Turn.TheVariants as grantings
 use Rattle.request.specs.Request as request
 use Rattle.request.specs.declared.Fault as request_fault
 use Rattle.request.specs.declared.Fault.TheVariants as request_faults
 use Rattle.scan.specs.Scan as scan
-use Rattle.scan.specs.declared.Stage as stepping
 use Rattle.scan.specs.declared.Stage.TheVariants as steppings
 use Rattle.setting.specs.Setting as setting
 use Rattle.setting.specs.declared.Fault as setting_fault

@@ -55,10 +55,8 @@ use Rattle.desk.proofs.Laws as desk_laws
 use Rattle.desk.specs.declared.Fault as desk_fault
 use Rattle.lanes.proofs.Laws as lanes_laws
 use Rattle.lanes.specs.declared.Fault as lanes_fault
-use Rattle.lanes.specs.declared.Turn as granting
 use Rattle.lanes.specs.declared.Turn.TheVariants as grantings
 use Rattle.scan.proofs.Laws as scan_laws
-use Rattle.scan.specs.declared.Stage as stepping
 use Rattle.scan.specs.declared.Stage.TheVariants as steppings
 use Rattle.setting.specs.declared.Fault as setting_fault
 use Rattle.sheet.proofs.Laws as sheet_laws

@@ -1,7 +1,7 @@
 -- What each return of the calls gives, over plain numbers, requests and lanes.
 -- Assumes nothing.
 use Rattle.lanes.specs.Answers.{joining}
-use Rattle.std.specs.Prelude.{Ok, Err}
+use Rattle.std.specs.Prelude.{Ok, Err, Option, Some, None, MatchOption}
 use mathlib.Core.Path.{◌≡◌, refl, sym, ap, ap₂, subst, ◌∙◌}
 use mathlib.Core.Bool.{Bool, true, false}
 use mathlib.Core.List.{List}
@@ -14,6 +14,8 @@ use borrow.Author.Tests.{lt-ltb, le-ltb, lt-leb, le-leb, eq-eqb, ne_eqb}
 use lib.ListN.{length}
 use Rattle.first.proofs.Laws.{first-none, first_at}
 use Rattle.first.specs.First.{first_place}
+use Rattle.rows.proofs.Laws.{clash}
+use Rattle.lanes.proofs.Ranking.{for_own, for_empty}
 use Rattle.request.specs.Request.{ask_refusal}
 use Rattle.request.specs.declared.Fault.{Fault as Asked}
 use Rattle.request.specs.declared.Request.{Request}
@@ -21,35 +23,60 @@ use Rattle.desk.specs.declared.AfterOpen.{AfterOpen}
 use Rattle.desk.specs.declared.Desk.{Desk}
 use Rattle.desk.specs.declared.Fault.{Fault as DeskFault}
 use Rattle.desk.specs.Answers.{Opening}
-use Rattle.lanes.specs.Lanes.{lane_at, waiting_at, waiting_with, with_last, with_lane, without, own_lane}
-use Rattle.lanes.specs.Join.{lane_for, join_refusal, Joins, JoinsAt}
+use Rattle.lanes.specs.Lanes.{lane_at, waiting_at, waiting_with, with_last, with_lane, without, own_lane, empty_lane, under, FirstOf16}
+use Rattle.lanes.specs.Join.{lane_for, join_refusal, Joins, JoinsAt, NotJoined}
 use Rattle.lanes.specs.Grant.{place_after, next_distance, next_place, grant_refusal, takes_out, moves_on, served_from, from_desk, OpensWaiting, Serves, Grants}
 use Rattle.lanes.specs.Withdraw.{withdraw_refusal, Withdraws}
 use Rattle.lanes.specs.declared.AfterGrant.{AfterGrant}
 use Rattle.lanes.specs.declared.AfterJoin.{AfterJoin}
-use Rattle.lanes.specs.declared.Fault.TheVariants.{Denied, ShortBuffer, NothingWaiting, NoSuchRequest, AtDesk}
+use Rattle.lanes.specs.declared.Fault.TheVariants.{Denied, NoLaneFree, LaneFull, ShortBuffer, NothingWaiting, NoSuchRequest, AtDesk}
 use Rattle.lanes.specs.Answers.{Granting}
 use Rattle.lanes.specs.declared.Turn.TheVariants.{TakenOut}
 use Rattle.lanes.specs.declared.Lane.{Lane}
 use Rattle.lanes.specs.declared.Lanes.{Lanes}
 
--- a search over all 16 lanes
-pub found : (fits : ℕ → Bool) (k : ℕ) → ((i : ℕ) → i < k → fits i ≡ false) → (k < 16 → fits k ≡ true) → k ≤ 16 → k ≡ first_place fits 16
-found fits k before there within = go (dec_lt k 16)
-  where
-    go : Dec (k < 16) → k ≡ first_place fits 16
-    go (yes h) = sym (first_at fits 16 k h before (there h))
-    go (no h) = let e : k ≡ 16 = omega arith in e ∙ sym (first-none fits 16 (rw e at before))
+-- ---- what is told of a place or distance under 16, or of none
+
+pub told_near : (n k : ℕ) (o : Option ℕ) → o ≡ under 16 n → o ≡ Some k → (k ≡ n) × (k < 16)
+unfolding under
+told_near n k o is some_one = elim (dec_lt n 16) [
+  | yes h ↦ let e : k ≡ n = cc (lt-ltb n 16 h) in (e, rw (sym e) at h)
+  | no h ↦ clash (cc (le-ltb n 16 (omega arith)))
+]
+
+pub told_far : (n : ℕ) (o : Option ℕ) → o ≡ under 16 n → o ≡ None → 16 ≤ n
+unfolding under
+told_far n o is nothing = elim (dec_lt n 16) [ yes h ↦ clash (cc (lt-ltb n 16 h)) | no h ↦ omega arith ]
+
+-- a search over all 16 lanes, by what was said of each
+pub found : (fits : ℕ → Bool) (Said : ℕ → Bool → Type 0) (o : Option ℕ) → FirstOf16 Said o
+    → ((b : Bool) (k : ℕ) → k < 16 → Said k b → fits k ≡ b) → o ≡ under 16 (first_place fits 16)
+unfolding under FirstOf16
+found fits Said (Some n) s tells =
+    rw (first_at fits 16 n s.0 (λ i l. tells false i (omega (arith, s.0, l)) (s.1 i l)) (tells true n s.0 s.2), lt-ltb n 16 s.0) refl
+found fits Said None s tells = rw (first-none fits 16 (λ i l. tells false i l (s i l))) refl
+
+-- what `find` answers over a range of 16
+pub of_16 : (Said : ℕ → Bool → Type 0) (o : Option ℕ)
+    → MatchOption o ((k : ℕ) → 0 ≤ k → k < 16 → Said k false) (λ i. (0 ≤ i) × (i < 16) × Said i true × ((k : ℕ) → 0 ≤ k → k < i → Said k false))
+    → FirstOf16 Said o
+unfolding FirstOf16
+of_16 Said None m = λ k l. m k (omega arith) l
+of_16 Said (Some n) m = (m.1, λ k l. m.3 k (omega arith) l, m.2)
 
 -- one from the first lane on
-pub found_whole : (fits : ℕ → Bool) (k : ℕ) → ((i : ℕ) → i < k → fits ((0 + i) % 16) ≡ false) → (k < 16 → fits ((0 + k) % 16) ≡ true) → k ≤ 16
-    → k ≡ first_place fits 16
-found_whole fits k before there within = found fits k (λ i l. ap fits (whole i (omega arith)) ∙ before i l) (λ l. ap fits (whole k l) ∙ there l) within
-  where
-    whole : (i : ℕ) → i < 16 → i ≡ (0 + i) % 16
-    whole i l = omega arith
+pub whole : (fits : ℕ → Bool) (k : ℕ) → k < 16 → fits k ≡ fits ((0 + k) % 16)
+whole fits k l = let e : k ≡ (0 + k) % 16 = omega arith in ap fits e
 
 -- ---- joining
+
+-- the job's own lane, or else an empty one
+pub own_or_empty : (lanes : Lanes) (job : ℕ) (o r : Option ℕ) (Else : Type 0) → o ≡ under 16 (own_lane lanes job)
+    → (Else → r ≡ under 16 (empty_lane lanes)) → MatchOption o Else (λ x. r ≡ Some x) → r ≡ under 16 (lane_for lanes job)
+own_or_empty lanes job None r Else is other m = other m ∙ ap (under 16) (sym (for_empty lanes job (told_far _ None is refl)))
+own_or_empty lanes job (Some k) r Else is other m =
+    let told = told_near _ k (Some k) is refl in
+    m ∙ is ∙ ap (under 16) (sym (for_own lanes job (rw told.0 at told.1)))
 
 pub joined_at : (lanes : Lanes) (place : ℕ) (asked : Request) (bytes : List ℕ) (lane : Lane) (lanes' : Lanes) → place < 16 → lane ≡ lane_at lanes place → lane.size < 4
     → lanes' ≡ with_lane lanes place (with_last lane (waiting_with asked bytes))
@@ -58,9 +85,18 @@ joined_at lanes place asked bytes lane lanes' near is few laid =
     rw (lt-leb 16 place near, lt-leb 4 (lane_at lanes place).size (rw is at few))
     (ap (λ (l : Lane). joining (place + 1) (l.size + 1)) is, laid ∙ ap (λ (l : Lane). with_lane lanes place (with_last l (waiting_with asked bytes))) is)
 
+pub full_at : (lanes : Lanes) (place : ℕ) (asked : Request) (bytes : List ℕ) (lane : Lane) (r : AfterJoin) → place < 16 → lane ≡ lane_at lanes place → 4 ≤ lane.size
+    → NotJoined LaneFull lanes r → JoinsAt lanes place asked bytes r
+full_at lanes place asked bytes lane r near is full refused = rw (lt-leb 16 place near, ← is, le-leb 4 lane.size full) refused
+
 pub join_denied : (lanes : Lanes) (asked : Request) (bytes : List ℕ) (f : Asked) → ask_refusal asked bytes ≡ some f → join_refusal lanes asked bytes ≡ some (Denied f)
 unfolding join_refusal
 join_denied lanes asked bytes f e = rw e
+
+pub join_nowhere : (lanes : Lanes) (asked : Request) (bytes : List ℕ) → ask_refusal asked bytes ≡ none → 16 ≤ lane_for lanes asked.job
+    → join_refusal lanes asked bytes ≡ some NoLaneFree
+unfolding join_refusal
+join_nowhere lanes asked bytes e far = rw (e, le-leb 16 (lane_for lanes asked.job) far)
 
 pub join_allowed : (lanes : Lanes) (asked : Request) (bytes : List ℕ) (r : AfterJoin) (place : ℕ) → ask_refusal asked bytes ≡ none → place ≡ lane_for lanes asked.job
     → JoinsAt lanes place asked bytes r → Joins lanes asked bytes r

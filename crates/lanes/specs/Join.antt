@@ -63,7 +63,7 @@ JoinsBy refusal lanes place asked bytes r =
 abbrev pub Joins : Lanes → Request → List ℕ → AfterJoin → Type 0
 Joins lanes asked bytes r = JoinsBy (join_refusal lanes asked bytes) lanes (lane_for lanes asked.job) asked bytes r
 
--- `join_at`: rows 71 and 72 and the joining, at any place
+-- rows 71 and 72 and the joining, at any place
 abbrev pub JoinsAt : Lanes → ℕ → Request → List ℕ → AfterJoin → Type 0
 JoinsAt lanes place asked bytes r = JoinsBy (first_row_of (lane_tests lanes place)) lanes place asked bytes r
 

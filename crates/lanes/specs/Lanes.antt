@@ -1,6 +1,6 @@
 -- Sixteen lanes in front of the desk, "each for one job number, holding up to 4 requests with data in order of arrival". 02, #109.
 -- Assumes nothing.
-use Rattle.std.specs.Prelude.{◌≡◌, Bool, cond, not, ◌&&◌, List, [], ◌∷◌, ℕ, ◌+◌, ◌-◌, ◌%◌, ◌<◌, eqb, ltb, length, get_or, set, take, replicate}
+use Rattle.std.specs.Prelude.{◌≡◌, Bool, true, false, Option, Some, None, cond, not, ◌&&◌, List, [], ◌∷◌, ℕ, ◌+◌, ◌-◌, ◌%◌, ◌<◌, eqb, ltb, length, get_or, set, take, replicate}
 use Rattle.lent.specs.Lent.{over}
 use Rattle.first.specs.First.{first_place}
 use Rattle.request.specs.Request.{fault_number as ask_number}
@@ -64,6 +64,15 @@ is_empty lane = eqb lane.size 0
 
 abbrev pub is_theirs : Lane → ℕ → Bool
 is_theirs lane job = not (eqb lane.size 0) && eqb (waiting_at lane 0).asked.job job
+
+-- what is below the most there may be, or none
+unfoldable pub under : ℕ → ℕ → Option ℕ
+under most n = cond (ltb n most) (Some n) None
+
+-- a search over all sixteen, going round, told by what a test said of each: the first of which it holds, or none
+unfoldable pub FirstOf16 : (ℕ → Bool → Type 0) → Option ℕ → Type 0
+FirstOf16 Said (Some n) = (n < 16) × ((k : ℕ) → k < n → Said k false) × Said n true
+FirstOf16 Said None = (k : ℕ) → k < 16 → Said k false
 
 -- where it stands; 16 for none
 unfoldable pub own_lane : Lanes → ℕ → ℕ

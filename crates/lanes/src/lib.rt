@@ -4,11 +4,11 @@
 #![tactic(auto)]
 
 ghost use Rattle.lanes.specs.Lanes.{Fresh, Numbers, lane_at, is_theirs, is_empty, waiting_with, with_last, with_lane, next_at, without};
-ghost use Rattle.lanes.specs.Lanes.{own_lane, empty_lane};
-ghost use Rattle.lanes.specs.Join.{Joins, JoinsAt, NotJoined, lane_for};
+ghost use Rattle.lanes.specs.Lanes.{own_lane, empty_lane, under, FirstOf16};
+ghost use Rattle.lanes.specs.Join.{Joins, NotJoined, lane_for};
 ghost use Rattle.lanes.specs.Grant.{Grants, Serves, NotGranted, OpensWith, OpensWaiting, next_distance, takes_out, moves_on, served_from, from_desk};
 ghost use Rattle.lanes.specs.Withdraw.{Withdraws, NotWithdrawn};
-ghost use Rattle.std.specs.Prelude.{◌≡◌, not, ◌+◌, ◌%◌, ◌≤◌, ◌<◌, ℕ, false, true, length};
+ghost use Rattle.std.specs.Prelude.{◌≡◌, ◌+◌, ◌%◌, ◌≤◌, ◌<◌, length};
 
 use desk::{AfterOpen, Opened};
 pub use desk::{Desk, Request};
@@ -145,21 +145,13 @@ pub fn number(fault: Fault) -> u8
 pub fn join(lanes: Lanes, asked: Request, data: &[u8]) -> AfterJoin
     ensures { Joins lanes asked «data».now result }
 {
-    match request::judge(asked, data) {
-        Err(fault) => not_joined(lanes, Fault::Denied(fault)),
-        Ok(()) => join_at(lanes, lane_for(lanes, asked.job), asked, data),
+    if let Err(fault) = request::judge(asked, data) {
+        return not_joined(lanes, Fault::Denied(fault));
     }
-}
-
-// Rows 71 and 72, and the joining itself, at a lane's place.
-fn join_at(lanes: Lanes, place: u8, asked: Request, data: &[u8]) -> AfterJoin
-    requires { length «data».now ≤ 240 }
-    ensures { JoinsAt lanes place asked «data».now result }
-{
-    if 16 <= place {
+    let Some(place) = lane_for(&lanes, asked.job) else {
         return not_joined(lanes, Fault::NoLaneFree);
-    }
-    let lane = lane_at(lanes, place);
+    };
+    let lane = lane_at(&lanes, place);
     if 4 <= lane.size {
         return not_joined(lanes, Fault::LaneFull);
     }
@@ -181,15 +173,11 @@ fn not_joined(lanes: Lanes, fault: Fault) -> AfterJoin
     }
 }
 
-// The place of the lane that a request of the job goes to; 16 for none.
-fn lane_for(lanes: Lanes, job: u32) -> u8
-    ensures { result ≡ lane_for lanes job }
+// The place of the lane that a request of the job goes to, if there is one.
+fn lane_for(lanes: &Lanes, job: u32) -> Option<u8>
+    ensures { result ≡ under 16 (lane_for lanes.now job) }
 {
-    let own = own_lane(lanes, job);
-    if own < 16 {
-        return own;
-    }
-    empty_lane(lanes)
+    own_lane(lanes, job).or_else(|| empty_lane(lanes))
 }
 
 // Opens the oldest request of the first lane with something waiting after the lane last served, going
@@ -201,10 +189,9 @@ pub fn grant(lanes: Lanes, desk: Desk, clock: u32, room: &mut [u8]) -> AfterGran
     if room.len() < LONGEST {
         return not_granted(lanes, desk, Fault::ShortBuffer);
     }
-    let distance = next_distance(lanes);
-    if 16 <= distance {
+    let Some(distance) = next_distance(&lanes) else {
         return not_granted(lanes, desk, Fault::NothingWaiting);
-    }
+    };
     let place = ((lanes.last as u16 + 1 + distance as u16) % 16) as u8;
     serve(lanes, desk, place, clock, room)
 }
@@ -214,7 +201,7 @@ fn serve(lanes: Lanes, desk: Desk, place: u8, clock: u32, room: &mut [u8]) -> Af
     requires { (place < 16) × (1 ≤ (lane_at lanes place).size) }
     ensures { Serves lanes desk place clock room.old result room.new }
 {
-    let lane = lane_at(lanes, place);
+    let lane = lane_at(&lanes, place);
     let oldest = lane.waiting[0];
     let after = open_waiting(desk, oldest, clock, room);
     let answer = after.answer;
@@ -277,16 +264,7 @@ fn moves_on(answer: Result<Opened, desk::Fault>) -> bool
 fn takes_out(fault: desk::Fault) -> bool
     ensures { result ≡ takes_out fault }
 {
-    match fault {
-        desk::Fault::FolderHeld => true,
-        desk::Fault::Denied(_) => false,
-        desk::Fault::NoneFree => false,
-        desk::Fault::NoRoom => false,
-        desk::Fault::Unread(_) => false,
-        desk::Fault::Misfit(_) => false,
-        desk::Fault::NotTheirs => false,
-        desk::Fault::NothingDue => false,
-    }
+    matches!(fault, desk::Fault::FolderHeld)
 }
 
 // The lanes once the lane at a place had its turn, or as they were.
@@ -321,11 +299,10 @@ fn from_desk(job: u32, answer: Result<Opened, desk::Fault>) -> Result<Turn, Faul
 pub fn withdraw(lanes: Lanes, job: u32, at: usize) -> AfterWithdraw
     ensures { Withdraws lanes job at result }
 {
-    let place = own_lane(lanes, job);
-    if 16 <= place {
+    let Some(place) = own_lane(&lanes, job) else {
         return not_withdrawn(lanes);
-    }
-    let lane = lane_at(lanes, place);
+    };
+    let lane = lane_at(&lanes, place);
     if at == 0 {
         return not_withdrawn(lanes);
     }
@@ -349,46 +326,39 @@ fn not_withdrawn(lanes: Lanes) -> AfterWithdraw
 
 // What follows alone reads or stores in the arrays.
 
-// The place of the job's lane; 16 where it has none.
-fn own_lane(lanes: Lanes, job: u32) -> u8
-    ensures { result ≡ own_lane lanes job }
+// The place of the job's lane, if it has one.
+fn own_lane(lanes: &Lanes, job: u32) -> Option<u8>
+    ensures { result ≡ under 16 (own_lane lanes.now job) }
 {
-    distance_to(&lanes, 0, |lane| is_theirs(lane, job))
+    distance_to(lanes, 0, |lane| is_theirs(lane, job))
 }
 
-// The lowest place of an empty lane; 16 where there is none.
-fn empty_lane(lanes: Lanes) -> u8
-    ensures { result ≡ empty_lane lanes }
+// The lowest place of an empty lane, if one is.
+fn empty_lane(lanes: &Lanes) -> Option<u8>
+    ensures { result ≡ under 16 (empty_lane lanes.now) }
 {
-    distance_to(&lanes, 0, is_empty)
+    distance_to(lanes, 0, is_empty)
 }
 
-// How far behind the lane last served the next one is in which something waits; 16 where nothing does.
-fn next_distance(lanes: Lanes) -> u8
-    ensures { result ≡ next_distance lanes }
+// How far behind the lane last served the next one is in which something waits, if any does.
+fn next_distance(lanes: &Lanes) -> Option<u8>
+    ensures { result ≡ under 16 (next_distance lanes.now) }
 {
     let last = lanes.last as usize;
-    distance_to(&lanes, last + 1, is_waited_in)
+    distance_to(lanes, last + 1, |lane| !is_empty(lane))
 }
 
-// How far from a place, going round, the first lane is for which the test holds; 16 where there is none.
-fn distance_to<F: Fn(Lane) -> bool>(lanes: &Lanes, from: usize, holds: F) -> u8
+// How far from a place, going round, the first lane is for which the test holds, if it does for one.
+fn distance_to<F: Fn(Lane) -> bool>(lanes: &Lanes, from: usize, holds: F) -> Option<u8>
     requires { (from ≤ 256) × F.IsAlwaysCallable holds }
-    ensures before { (k : ℕ) → k < result → F.post holds (lane_at lanes.now ((from + k) % 16)) false }
-    ensures there { result < 16 → F.post holds (lane_at lanes.now ((from + result) % 16)) true }
-    ensures within { result ≤ 16 }
+    ensures { FirstOf16 (λ k. F.post holds (lane_at lanes.now ((from + k) % 16))) result }
 {
-    for k in 0..16 {
-        if holds(lanes.lanes[(from + k as usize) % 16]) {
-            return k;
-        }
-    }
-    16
+    (0..16).find(|&k| holds(lanes.lanes[(from + k as usize) % 16]))
 }
 
-fn lane_at(lanes: Lanes, place: u8) -> Lane
+fn lane_at(lanes: &Lanes, place: u8) -> Lane
     requires { place < 16 }
-    ensures { result ≡ lane_at lanes place }
+    ensures { result ≡ lane_at lanes.now place }
 {
     let at = place as usize;
     lanes.lanes[at]
@@ -398,12 +368,6 @@ fn is_empty(lane: Lane) -> bool
     ensures { result ≡ is_empty lane }
 {
     lane.size == 0
-}
-
-fn is_waited_in(lane: Lane) -> bool
-    ensures { result ≡ not (is_empty lane) }
-{
-    lane.size != 0
 }
 
 // Whether the lane is the job's.

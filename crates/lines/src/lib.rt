@@ -90,6 +90,7 @@ fn refused(fault: telegram::Fault, room: &mut [u8], at: usize) -> usize
 {
     let number = telegram::number(fault);
     let a = labelled(b" refused", number as u64, room, at);
+    // by its number and not its fault: tests/wrong/lines/place_with_4 is a wrong number here
     if number == 3 {
         let place = telegram::place(fault);
         return labelled(b" in", place as u64, room, a);

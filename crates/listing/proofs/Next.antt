@@ -3,28 +3,12 @@
 use mathlib.Core.Path.{◌≡◌, refl}
 use mathlib.Core.Bool.{Bool, true, false, cond}
 use mathlib.Core.List.{List, [], ◌∷◌}
-use Prim.Native.Nat.{ℕ, zero, suc, ◌+◌, ◌≤◌, ◌<◌}
+use Prim.Native.Nat.{ℕ, zero, suc, ◌≤◌, ◌<◌}
 use native.Mathlib.Nat.{le_of_suc-le-suc, not-suc-le-zero}
-use native.Mathlib.Omega.{arith}
-use lib.ListN.{length, get_or, drop, drop_of_length-le}
-use Rattle.lent.proofs.Laws.{drop-next}
+use lib.ListN.{length, get_or}
 use Rattle.listing.specs.Events.{to_next}
 
 module _ (is : ℕ → Bool) where
-  -- a walk to it: the way so far and the way from here are the way n
-  module _ (xs : List ℕ) (n i : ℕ) (way : n ≡ i + to_next is (drop i xs)) where
-    pub walk_there : i < length xs → is (get_or xs i 0) ≡ true → i ≡ n
-    unfolding to_next
-    walk_there under e = let z : to_next is (drop i xs) ≡ 0 = rw (drop-next xs i under) (rw e) in omega arith
-
-    pub walk_on : i < length xs → is (get_or xs i 0) ≡ false → n ≡ i + 1 + to_next is (drop (i + 1) xs)
-    unfolding to_next
-    walk_on under e = let z : to_next is (drop i xs) ≡ suc (to_next is (drop (i + 1) xs)) = rw (drop-next xs i under) (rw e) in omega arith
-
-    pub walk_ends : length xs ≤ i → i ≡ n
-    unfolding to_next
-    walk_ends past = let z : to_next is (drop i xs) ≡ 0 = rw (drop_of_length-le xs {i = i} past) refl in omega arith
-
   pub next-none : to_next is [] ≡ 0
   unfolding to_next
   next-none = refl

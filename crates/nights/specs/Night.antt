@@ -6,7 +6,7 @@ use Rattle.desk.specs.Desk.{ticket_at, ticket_on, OpenOn}
 use Rattle.desk.specs.Open.{given_place, request_at, open_refusal, open_answer, open_desk}
 use Rattle.desk.specs.Reply.{reply_refusal, book_answer, book_desk}
 use Rattle.desk.specs.declared.Desk.{Desk}
-use Rattle.desk.specs.Answers.{Opening, booking, closing, opening}
+use Rattle.desk.specs.Answers.{Opening}
 use Rattle.desk.specs.Answers.{Booking}
 use Rattle.desk.specs.Answers.{Closing}
 use Rattle.request.specs.declared.Request.{Request}

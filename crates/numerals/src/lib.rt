@@ -47,6 +47,7 @@ pub fn up_to(word: &[u8], most: u32) -> u64
     ensures { Limits most word.now result }
 {
     let over = most as u64 + 1;
+    // an arm each: tests/wrong/numerals/huge_told_as_0 is refused by Huge's
     match read(word) {
         Numeral::Is(value) => limited(value, over),
         Numeral::Huge => over,
@@ -79,10 +80,7 @@ fn signed(minus: bool, size: u64) -> Value
 fn is_minus(word: &[u8]) -> bool
     ensures { result ≡ is_minus word.now }
 {
-    if 0 < word.len() {
-        return word[0] == b'-';
-    }
-    false
+    0 < word.len() && word[0] == b'-'
 }
 
 // Where a word goes on behind its minus.
@@ -96,12 +94,7 @@ fn is_hex(word: &[u8]) -> bool
     ensures { result ≡ is_hex word.now }
 {
     let at = unsigned_at(word);
-    if at + 1 < word.len() {
-        if word[at] == b'0' {
-            return word[at + 1] == b'x';
-        }
-    }
-    false
+    at + 1 < word.len() && word[at] == b'0' && word[at + 1] == b'x'
 }
 
 fn base(word: &[u8]) -> u64

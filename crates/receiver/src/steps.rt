@@ -5,7 +5,7 @@ ghost use Rattle.listing.specs.Events.{placed, read_event, frame_event};
 ghost use Rattle.std.specs.Prelude.{◌≡◌, ◌<◌, ◌≤◌, ◌+◌, Ok, Some};
 
 use crate::seek::{next_end, next_start};
-use crate::{Answer, Fault, MOST_KEPT, Receiver, Stepped};
+use crate::{Fault, MOST_KEPT, Receiver, Stepped};
 use frame::START;
 use lines::{Event, Placed};
 use telegram::MOST_DATA;

@@ -39,7 +39,7 @@ decides_listed : (sort : ℕ) → Decides (is_request sort) ((sort ≡ 4) ⊎ ((
 decides_listed sort =
     decides_or (decides_eq sort 4) (decides_or (decides_eq sort 5) (decides_or (decides_eq sort 6) (decides_or (decides_eq sort 7) (decides_eq sort 9))))
 
--- 4 to 7 are neighbours: as the code's `match` tests it
+-- 4 to 7 are neighbours: the same by ranges
 pub decides_request : (sort : ℕ) → Decides (is_request sort) (((4 ≤ sort) × (sort ≤ 7)) ⊎ (sort ≡ 9))
 decides_request sort = decides_as (decides_listed sort) near listed
   where

@@ -75,10 +75,7 @@ fn one_to(most: u32, x: u32) -> bool
 fn is_request(sort: u8) -> bool
     ensures { result ≡ is_request sort }
 {
-    match sort {
-        READ | WRITE | SET_BITS | CLEAR_BITS | TOGGLE_BITS => true,
-        _ => false,
-    }
+    matches!(sort, READ | WRITE | SET_BITS | CLEAR_BITS | TOGGLE_BITS)
 }
 
 fn wrong_data(sort: u8, size: usize) -> bool

@@ -7,7 +7,7 @@ use Rattle.request.specs.declared.Request.{Request}
 use Rattle.desk.specs.Desk.{fault_number as desk_number}
 use Rattle.desk.specs.Open.{Opens}
 use Rattle.desk.specs.declared.AfterOpen.{AfterOpen}
-use Rattle.desk.specs.Answers.{Booking, opening}
+use Rattle.desk.specs.Answers.{Booking}
 use Rattle.desk.specs.Answers.{Closing}
 use Rattle.desk.specs.declared.Desk.{Desk}
 use Rattle.desk.specs.Answers.{Opening}

@@ -136,7 +136,8 @@ fn add_to(room: &mut [u8], size: usize, n: usize, head: Head, value: &[u8]) -> R
     put(room, size, n, at, head, value)
 }
 
-// The first record of a module or of one above it; n where there is none.
+// The first record of a module or of one above it; n where there is none. No Option, since the place is
+// also where the records before it end, which `cut` is given.
 fn first_of(room: &[u8], n: usize, unit: u8) -> usize
     requires { (n ≤ 128) × (12 + 8 * n ≤ length room.now) }
     ensures { result ≡ first_place (not_below (head unit 0 0 0) (heads (take (8 * n) (drop 12 room.now)))) n }
@@ -153,7 +154,7 @@ fn first_of(room: &[u8], n: usize, unit: u8) -> usize
     )
 }
 
-// Where among n records a setting stands, or would stand.
+// Where among n records a setting stands, or would stand: a place each time, so no Option.
 fn place(room: &[u8], n: usize, head: Head) -> usize
     requires { (n ≤ 128) × (12 + 8 * n ≤ length room.now) }
     ensures { result ≡ first_place (not_below head (heads (take (8 * n) (drop 12 room.now)))) n }

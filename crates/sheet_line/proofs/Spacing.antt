@@ -42,18 +42,6 @@ plain_to (b ∷ rest) (suc i) l before there =
 
 -- ---- a blank, and what is none
 
-pub blank_first : (b : ℕ) → b ≡ 32 → true ≡ is_blank b
-unfolding is_blank
-blank_first b e = rw e
-
-pub blank_second : (b : ℕ) → b ≢ 32 → b ≡ 9 → true ≡ is_blank b
-unfolding is_blank
-blank_second b n e = rw e
-
-pub blank_last : (b : ℕ) → b ≢ 32 → b ≢ 9 → eqb b 13 ≡ is_blank b
-unfolding is_blank
-blank_last b n m = rw (ne_eqb b 32 n, ne_eqb b 9 m)
-
 end_of_all : ([] ≡ (parted []).word) × (words_in [] ≡ (parted []).behind)
 unfolding words_in parted with_word
 end_of_all = (refl, refl)

@@ -8,7 +8,7 @@ use Prim.Native.Nat.{ℕ, ◌+◌, ◌≤◌, ◌<◌}
 use Prim.Native.String.{String}
 use native.Mathlib.Nat.{add-zero}
 use native.Mathlib.Omega.{arith}
-use borrow.Author.Tests.{eq-eqb, ne_eqb}
+use borrow.Author.Tests.{ne_eqb}
 use lib.Dec.{eqb}
 use lib.ListN.{length, get_or, drop}
 use lib.Seq.{get_or-drop, drop-drop}
@@ -33,9 +33,6 @@ word_here words k so e =
     e ∙ (ap (λ (l : List (List ℕ)). get_or l 0 []) (sym so) ∙ (get_or-drop k words 0 [] ∙ ap (λ (n : ℕ). get_or words n []) (add-zero k)))
 
 -- ---- a word that is no number
-
-pub third_right : (k : ℕ) (t : Bool) → k ≡ 2 → false ≡ (not (eqb k 2) && not t)
-third_right k t e = rw (eq-eqb k 2 e)
 
 pub other_told : (k : ℕ) (t : Bool) {r : Bool} → k ≢ 2 → r ≡ t → not r ≡ (not (eqb k 2) && not t)
 other_told k t n e = rw (ne_eqb k 2 n, e)

@@ -66,11 +66,14 @@ module _ (kind : ℕ) (word : List ℕ) (l : 1 ≤ kind) (h : kind ≤ 7) {read 
         refused_unfit true q = clash (refusal_clash kind value f is_kind_lem q (stored_refused kind value f e))
         refused_unfit false q = q
 
-  pub huge_refused : read ≡ numeral.Huge → false ≡ fits kind (value_of word)
-  huge_refused e = sym (huge_unfit kind word (numeral_huge word (sym read_is ∙ e)).1)
-
-  pub nothing_refused : is_number word ≡ true → read ≡ numeral.Nothing → false ≡ fits kind (value_of word)
-  nothing_refused n e = absurd (true≢false (sym n ∙ numeral_nothing word (sym read_is ∙ e)))
+  -- a number whose value was not read
+  pub unread_refused : is_number word ≡ true → ((value : Value) → read ≡ numeral.Is value → ⊥) → false ≡ fits kind (value_of word)
+  unread_refused number unread = go read refl
+    where
+      go : (told : Numeral) → read ≡ told → false ≡ fits kind (value_of word)
+      go (numeral.Is value) e = absurd (unread value e)
+      go numeral.Huge e = sym (huge_unfit kind word (numeral_huge word (sym read_is ∙ e)).1)
+      go numeral.Nothing e = absurd (true≢false (sym number ∙ numeral_nothing word (sym read_is ∙ e)))
 
 -- ---- the values, one behind the other: what is still to be laid gives the whole
 

@@ -1,5 +1,5 @@
 // Reading a line without its remark.
-ghost use Rattle.std.specs.Prelude.{◌≡◌, true, not, ◌&&◌, List, [], ℕ, ◌≤◌, ◌<◌, eqb, length, get_or, drop};
+ghost use Rattle.std.specs.Prelude.{◌≡◌, MatchOption, true, not, ◌&&◌, List, [], ℕ, ◌≤◌, ◌<◌, eqb, length, get_or, drop};
 ghost use Rattle.lent.specs.Lent.{over_at};
 ghost use Rattle.rows.specs.Rows.{first_row_of};
 ghost use Rattle.values.specs.Values.{size_of, fits, bytes_of, stored_at};
@@ -15,6 +15,7 @@ use setting::Head;
 use sheet::Record;
 
 // What the first four words say, and where the values begin. A number that is none of a byte is 256.
+// That and kind 0 are no Option, since the definitions have them (`small_at`, `kind_of`, `Says`).
 #[derive(Clone, Copy)]
 struct Four {
     unit: u64,
@@ -43,8 +44,7 @@ pub(crate) fn read_words(text: &[u8], room: &mut [u8]) -> Line
     if many < 4 {
         return Err(Fault::FewWords);
     }
-    let wrong = first_wrong(text, many);
-    if wrong < many {
+    if let Some(wrong) = first_wrong(text, many) {
         return Err(Fault::NoNumber(wrong + 1));
     }
     let four = first_four(text);
@@ -60,10 +60,10 @@ fn count_words(text: &[u8]) -> usize
         .count()
 }
 
-// The first of so many words, from 0 on, that is no number and should be one; `many` where each is.
-fn first_wrong(text: &[u8], many: usize) -> usize
+// The first of so many words, from 0 on, that is no number and should be one.
+fn first_wrong(text: &[u8], many: usize) -> Option<usize>
     requires { many ≡ length (words_in text.now) }
-    ensures { (result ≡ no_number_at (words_in text.now)) × (result ≤ length text.now) }
+    ensures { MatchOption result (many ≡ no_number_at (words_in text.now)) (λ k. (k ≡ no_number_at (words_in text.now)) × (k < many)) }
 {
     let mut at = 0;
     for k in 0..many {
@@ -71,21 +71,18 @@ fn first_wrong(text: &[u8], many: usize) -> usize
         let from = next.from;
         let to = next.to;
         if is_wrong(&text[from..to], k) {
-            return k;
+            return Some(k);
         }
         at = to;
     }
-    many
+    None
 }
 
 // Whether a word at a place should be a number and is none.
 fn is_wrong(word: &[u8], k: usize) -> bool
     ensures { result ≡ (not (eqb k 2) && not (is_number word.now)) }
 {
-    if k == 2 {
-        return false;
-    }
-    !numerals::is_number(word)
+    k != 2 && !numerals::is_number(word)
 }
 
 fn first_four(text: &[u8]) -> Four
@@ -165,9 +162,8 @@ fn read_values(text: &[u8], at: usize, head: Head, room: &mut [u8]) -> Line
     ensures stored { room.new ≡ room_after result (value_in (words_in text.now)) room.old }
 {
     let mut space = [0u8; 240];
-    let fitting = store_values(text, at, head, &mut space);
-    if fitting < head.count as usize {
-        return Err(Fault::NotFitting(fitting + 5));
+    if let Some(unfit) = store_values(text, at, head, &mut space) {
+        return Err(Fault::NotFitting(unfit + 5));
     }
     let size = setting::measure(head);
     if room.len() < size {
@@ -180,13 +176,13 @@ fn read_values(text: &[u8], at: usize, head: Head, room: &mut [u8]) -> Line
     }))
 }
 
-// Lays the bytes of the values behind each other and answers how many there are before the first
-// that does not fit.
-fn store_values(text: &[u8], at: usize, head: Head, space: &mut [u8]) -> usize
+// Lays the bytes of the values behind each other up to the first that does not fit, and answers its
+// place, from 0 on.
+fn store_values(text: &[u8], at: usize, head: Head, space: &mut [u8]) -> Option<usize>
     requires in_text { at ≤ length text.now }
     requires head_fits { (1 ≤ head.kind) × (head.kind ≤ 7) × (length_of head ≤ length space.old) }
     requires numbers_there { (head.count ≤ length (words_in (drop at text.now))) × AreNumbers (words_in (drop at text.now)) head.count }
-    ensures { StoresAll (words_in (drop at text.now)) head space.old result space.new }
+    ensures { MatchOption result (StoresAll (words_in (drop at text.now)) head space.old head.count space.new) (λ k. StoresAll (words_in (drop at text.now)) head space.old k space.new × (k < head.count)) }
 {
     let many = head.count as usize;
     let size = values::size(head.kind);
@@ -198,10 +194,10 @@ fn store_values(text: &[u8], at: usize, head: Head, space: &mut [u8]) -> usize
         if store(&text[start..end], head.kind, space, k * size) {
             from = end;
         } else {
-            return k;
+            return Some(k);
         }
     }
-    many
+    None
 }
 
 // Lays the bytes of a value from a place on, if it fits the kind, and answers whether it does.
@@ -218,7 +214,6 @@ fn store(word: &[u8], kind: u8, space: &mut [u8], at: usize) -> bool
             }
             Err(_) => false,
         },
-        Numeral::Huge => false,
-        Numeral::Nothing => false,
+        _ => false,
     }
 }

@@ -61,16 +61,10 @@ fn word_end(text: &[u8], at: usize) -> usize
 pub(crate) fn is_blank(byte: u8) -> bool
     ensures { result ≡ is_blank byte }
 {
-    if byte == b' ' {
-        return true;
-    }
-    if byte == b'\t' {
-        return true;
-    }
-    byte == b'\r'
+    matches!(byte, b' ' | b'\t' | b'\r')
 }
 
-// The kind that a word names, 0 where it names none.
+// The kind that a word names, 0 where it names none: no Option, since `kind_of` and `Says` have 0.
 pub(crate) fn kind(word: &[u8]) -> u8
     ensures { result ≡ kind_of word.now }
 {

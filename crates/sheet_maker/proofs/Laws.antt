@@ -6,8 +6,7 @@ use Prim.Native.Nat.{ℕ}
 use Rattle.rows.specs.Settled.{Settled}
 use Rattle.rows.proofs.Settled.{settled, settled_with}
 use Rattle.sheet_line.specs.declared.Fault.{Fault}
-use Rattle.sheet_maker.specs.declared.Making.{Making}
-use Rattle.sheet_maker.specs.declared.Adding.{Adding}
+use Rattle.sheet_maker.specs.Answers.{Making, Adding}
 use Rattle.sheet_maker.specs.Maker.{Makes, AddsLine, Finds, Keys, NumbersKey}
 
 -- ---- each call is settled

@@ -327,7 +327,3 @@ gathered_on text line lines number page page' rows₀ rows rows' values₀ value
     -- where nothing is wrong now, nothing was before
     right : page'.wrong ≡ 0 → page.wrong ≡ 0
     right z = omega (arith, t.wrong)
-
-pub ready_for : (text : List ℕ) (lines : List (List ℕ)) (number : ℕ) (page : Page) (rows₀ rows values₀ values list₀ list : List ℕ)
-    → Gathered text lines number page rows₀ rows values₀ values list₀ list → Ready (number + 1) page
-ready_for text lines number page rows₀ rows values₀ values list₀ list g = record { few = g.few; short = g.short; wrong = omega (arith, g.at_most) }

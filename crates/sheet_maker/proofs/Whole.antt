@@ -1,6 +1,8 @@
 -- What was gathered of all lines, and what the calls make of it.
 -- Assumes nothing.
-use Rattle.std.specs.Prelude.{Ok, Err, Some, None}
+use Rattle.std.specs.Prelude.{Ok, Err, Some, None, Option as Maybe, IsErrAnd, MatchResult, MatchOption}
+use Rattle.std.proofs.Common.{unwrap_or}
+use Rattle.std.proofs.lemmas.Result.{err_from_is_err_and}
 use mathlib.Core.Path.{◌≡◌, refl, sym, ap, ◌∙◌, subst}
 use mathlib.Core.Bool.{Bool}
 use mathlib.Core.List.{List, [], ◌∷◌, ◌++◌}
@@ -41,10 +43,9 @@ use Rattle.sheet_line.proofs.Sound.{ReadFrom, read_allowed}
 use Rattle.sheet_maker.specs.Maker.{lines_of, said, setting_of, settings_from, settings_of, reports_from, reports_of, bad_in, make_refusal, make_answer, make_room, Makes, wrong_answer, added_answer, AddsLine, key_for, is_key, Finds}
 use Rattle.sheet_maker.specs.Gathering.{Gathered}
 use Rattle.sheet_maker.specs.declared.gathering.Page.{Page}
-use Rattle.sheet_maker.specs.declared.Making.{Making}
-use Rattle.sheet_maker.specs.declared.Making.TheVariants as making
-use Rattle.sheet_maker.specs.declared.Adding.{Adding}
-use Rattle.sheet_maker.specs.declared.Adding.TheVariants as adding
+use Rattle.sheet_maker.specs.Answers.{Making, Adding}
+use Rattle.sheet_maker.specs.declared.NotMade.TheVariants as not_made
+use Rattle.sheet_maker.specs.declared.NotAdded.TheVariants as not_added
 use Rattle.sheet_maker.proofs.Steps.{line_said, setting_read}
 
 -- ---- a setting that a line says
@@ -90,14 +91,14 @@ told_lines text n page rows₀ rows values₀ values list₀ list g = sym (over_
 
 -- there are bad ones
 pub made_wrong : (text : List ℕ) (n : ℕ) (page : Page) (rows₀ rows values₀ values list₀ list room : List ℕ) → Done text n page rows₀ rows values₀ values list₀ list
-    → 0 < page.wrong → Makes text list₀ room (making.Wrong page.wrong) list room
+    → 0 < page.wrong → Makes text list₀ room (Err (not_made.Wrong page.wrong)) list room
 made_wrong text n page rows₀ rows values₀ values list₀ list room g some_wrong =
     go page.wrong (bad_lines text n page rows₀ rows values₀ values list₀ list g) some_wrong
   where
     told : list ≡ over (reports_of text) list₀
     told = told_lines text n page rows₀ rows values₀ values list₀ list g
 
-    go : (w : ℕ) → bad_in text ≡ w → 0 < w → Makes text list₀ room (making.Wrong w) list room
+    go : (w : ℕ) → bad_in text ≡ w → 0 < w → Makes text list₀ room (Err (not_made.Wrong w)) list room
     go zero e h = absurd (omega arith)
     go (suc w) e h = (rw e refl, told, rw e refl)
 
@@ -144,8 +145,8 @@ values_are text n page rows₀ rows values₀ values list₀ list g z long =
 
 -- what the writer answered is told
 abbrev pub written : Writing → Making
-written (Ok size) = making.Made size
-written (Err f) = making.Refused f
+written (Ok size) = Ok size
+written (Err f) = Err (not_made.Refused f)
 
 pub made_right : (text : List ℕ) (n : ℕ) (page : Page) (rows₀ rows values₀ values list₀ list room : List ℕ) (w : Writing) (room' : List ℕ)
     → Done text n page rows₀ rows values₀ values list₀ list → page.wrong ≤ 0 → length rows₀ ≡ 1024 → length values₀ ≡ 30720
@@ -185,12 +186,17 @@ made_right text n page rows₀ rows values₀ values list₀ list room w room' g
     told_room (some f) = refl
     told_room none = refl
 
--- what it answered is this
-pub made_as : (text : List ℕ) (n : ℕ) (page : Page) (rows₀ rows values₀ values list₀ list room : List ℕ) (w so : Writing) (room' : List ℕ)
+-- its refusal is passed on
+written_told : (w : Writing) (r : Making) → MatchResult w (λ n. r ≡ Ok n) (λ f. IsErrAnd r (λ g. g ≡ not_made.Refused f)) → r ≡ written w
+written_told (Ok n) r told = told
+written_told (Err f) r told = let p = err_from_is_err_and r told in p.1 ∙ ap Err p.2
+
+pub made_as : (text : List ℕ) (n : ℕ) (page : Page) (rows₀ rows values₀ values list₀ list room : List ℕ) (w : Writing) (room' : List ℕ) (r : Making)
     → Done text n page rows₀ rows values₀ values list₀ list → page.wrong ≤ 0 → length rows₀ ≡ 1024 → length values₀ ≡ 30720
-    → w ≡ so → Writes (take (8 * page.many - 0) rows) (take (page.size - 0) values) room w room' → Makes text list₀ room (written so) list room'
-made_as text n page rows₀ rows values₀ values list₀ list room w so room' g few_wrong long wide is writes =
-    subst (λ (x : Writing). Makes text list₀ room (written x) list room') is
+    → Writes (take (8 * page.many - 0) rows) (take (page.size - 0) values) room w room'
+    → MatchResult w (λ n. r ≡ Ok n) (λ f. IsErrAnd r (λ g. g ≡ not_made.Refused f)) → Makes text list₀ room r list room'
+made_as text n page rows₀ rows values₀ values list₀ list room w room' r g few_wrong long wide writes told =
+    subst (λ (x : Making). Makes text list₀ room x list room') (sym (written_told w r told))
     (made_right text n page rows₀ rows values₀ values list₀ list room w room' g few_wrong long wide writes)
 
 -- where values are gathered, they are within their space
@@ -200,17 +206,17 @@ within_values text n page rows₀ rows values₀ values list₀ list g = (g.few,
 
 -- ---- a setting added
 
-pub not_added_stated : (room : List ℕ) (size : ℕ) (wrong : LineFault) → length room < size → adding.Refused Overstated ≡ wrong_answer (sheet_refusal room size) wrong
+pub not_added_stated : (room : List ℕ) (size : ℕ) (wrong : LineFault) → length room < size → wrong_answer (sheet_refusal room size) wrong ≡ Err (not_added.Refused Overstated)
 not_added_stated room size wrong h = rw (lt-ltb (length room) size h) refl
 
 pub not_added_sheet : (room : List ℕ) (size : ℕ) (wrong : LineFault) (f : SheetFault) (r : Checked) → size ≤ length room → Checks (take (size - 0) room) r → r ≡ Err f
-    → adding.Refused (WrongSheet f) ≡ wrong_answer (sheet_refusal room size) wrong
+    → wrong_answer (sheet_refusal room size) wrong ≡ Err (not_added.Refused (WrongSheet f))
 not_added_sheet room size wrong f r h checks is =
     let so : check_refusal (take size room) ≡ some f = rw (sub-zero size) at (checked_refused (check_refusal (take (size - 0) room)) _ f (sym is ∙ checks)) in
     rw (le-ltb (length room) size h, so) refl
 
 pub not_added_line : (room : List ℕ) (size : ℕ) (wrong : LineFault) (n : ℕ) (r : Checked) → size ≤ length room → Checks (take (size - 0) room) r → r ≡ Ok n
-    → adding.Wrong wrong ≡ wrong_answer (sheet_refusal room size) wrong
+    → wrong_answer (sheet_refusal room size) wrong ≡ Err (not_added.Wrong wrong)
 not_added_line room size wrong n r h checks is =
     let so : check_refusal (take size room) ≡ none = rw (sub-zero size) at (right_told (check_refusal (take (size - 0) room)) _ n (sym is ∙ checks)).0 in
     rw (le-ltb (length room) size h, so) refl
@@ -224,22 +230,24 @@ pub wrong_added : (room : List ℕ) (size : ℕ) (line space : List ℕ) (answer
 wrong_added room size line space answer f r long is so told = rw (line_said line space answer (Err f) long so is) (told, refl)
 
 abbrev pub edited : Editing → Adding
-edited (Ok size) = adding.Added size
-edited (Err f) = adding.Refused f
+edited (Ok size) = Ok size
+edited (Err f) = Err (not_added.Refused f)
 
-pub line_added : (room : List ℕ) (size : ℕ) (line space : List ℕ) (answer : Line) (record_of : Record) (space' : List ℕ) (e so : Editing) (room' : List ℕ) → length space ≡ 240
-    → answer ≡ Ok (Some record_of) → Reads line space answer space' → e ≡ so → Adds room size record_of.head (take (record_of.size - 0) space') e room' → AddsLine room size line (edited so) room'
-line_added room size line space answer r space' e so room' long is reads same adds =
-    rw (line_said line space answer (Ok (Some r)) long reads.0 is) (subst (λ (x : Editing). edited x ≡ answer_here) same (ap edited done.0 ∙ told refusal), done.1)
+edited_told : (e : Editing) (r : Adding) → MatchResult e (λ n. r ≡ Ok n) (λ f. IsErrAnd r (λ g. g ≡ not_added.Refused f)) → r ≡ edited e
+edited_told (Ok n) r told = told
+edited_told (Err f) r told = let p = err_from_is_err_and r told in p.1 ∙ ap Err p.2
+
+pub line_added : (room : List ℕ) (size : ℕ) (line space : List ℕ) (answer : Line) (record_of : Record) (space' : List ℕ) (e : Editing) (room' : List ℕ) (a : Adding) → length space ≡ 240
+    → answer ≡ Ok (Some record_of) → Reads line space answer space' → Adds room size record_of.head (take (record_of.size - 0) space') e room'
+    → MatchResult e (λ n. a ≡ Ok n) (λ f. IsErrAnd a (λ g. g ≡ not_added.Refused f)) → AddsLine room size line a room'
+line_added room size line space answer r space' e room' a long is reads adds passed =
+    rw (line_said line space answer (Ok (Some r)) long reads.0 is) (edited_told e a passed ∙ (ap edited done.0 ∙ told refusal), done.1)
   where
     new : Setting
     new = setting_in (words_of line)
 
     refusal : Option EditFault
     refusal = add_refusal room size new
-
-    answer_here : Adding
-    answer_here = added_answer refusal (length (sheet_of (among new (held (take size room)))))
 
     done : Edits refusal (among new (held (take size room))) room e room'
     done = rw (sub-zero r.size, setting_read line space answer r space' is reads) at adds
@@ -266,13 +274,20 @@ sheet_within sheet n r checks is =
     let w : Whole sheet = whole sheet ((done_exactly (check_rows sheet) (check_refusal sheet) (check_ranked sheet)).0 so.0) in
     rw so.1 (w.header.few, w.header.reaches)
 
-pub found_at_lem : (sheet : List ℕ) (unit register n end i : ℕ) (r : Checked) → Checks sheet r → r ≡ Ok n → end ≡ 12 + 8 * n
-    → i ≡ first_place (is_key unit register (heads (take (end - 12) (drop 12 sheet)))) (rows_in (take (end - 12) (drop 12 sheet))) → Finds sheet unit register i
+abbrev FirstIn : (ℕ → Bool) → ℕ → Maybe ℕ → Type 0
+FirstIn p m o = MatchOption o (m ≡ first_place p m) (λ k. (k ≡ first_place p m) × (k < m))
+
+first_or_none : (p : ℕ → Bool) (m n : ℕ) (o : Maybe ℕ) → n ≡ m → FirstIn p m o → unwrap_or o n ≡ first_place p m
+first_or_none p m n None same first = same ∙ first
+first_or_none p m n (Some k) same first = first.0
+
+pub found_at_lem : (sheet : List ℕ) (unit register n end i : ℕ) (o : Maybe ℕ) (r : Checked) → Checks sheet r → r ≡ Ok n → end ≡ 12 + 8 * n → i ≡ unwrap_or o n
+    → FirstIn (is_key unit register (heads (take (end - 12) (drop 12 sheet)))) (rows_in (take (end - 12) (drop 12 sheet))) o → Finds sheet unit register i
 unfolding records_in
-found_at_lem sheet unit register n end i r checks is ends e =
+found_at_lem sheet unit register n end i o r checks is ends told first =
     let so = sheet_right sheet n r checks is in
     let inside = sheet_within sheet n r checks is in
     let size : end - 12 ≡ 8 * count_in sheet = omega (arith, ends, so.1) in
     let many : rows_in (take (8 * count_in sheet) (drop 12 sheet)) ≡ count_in sheet =
     rows_whole (take (8 * count_in sheet) (drop 12 sheet)) (count_in sheet) (records_long sheet (rw so.1 at inside.1)) in
-    rw so.0 (rw (size, many) at e)
+    rw so.0 (told ∙ first_or_none (is_key unit register (heads (take (8 * count_in sheet) (drop 12 sheet)))) (count_in sheet) n o so.1 (rw (size, many) at first))

@@ -17,10 +17,9 @@ use Rattle.sheet_line.specs.Line.{said_by, setting_in, fault_word}
 use Rattle.sheet_line.specs.Answers.{Line}
 use Rattle.sheet_line.specs.declared.Fault.{Fault as LineFault}
 use Rattle.sheet_line.specs.declared.Fault.TheVariants.{FewWords, NoNumber, NoModule, NoRegister, NoKind, BadCount, OtherCount, NotFitting, NoRoom}
-use Rattle.sheet_maker.specs.declared.Making.{Making}
-use Rattle.sheet_maker.specs.declared.Making.TheVariants as making
-use Rattle.sheet_maker.specs.declared.Adding.{Adding}
-use Rattle.sheet_maker.specs.declared.Adding.TheVariants as adding
+use Rattle.sheet_maker.specs.Answers.{Making, Adding}
+use Rattle.sheet_maker.specs.declared.NotMade.TheVariants as not_made
+use Rattle.sheet_maker.specs.declared.NotAdded.TheVariants as not_added
 
 -- ---- "A line ends with a newline, byte 10. What stands behind the last newline is a line too."
 
@@ -108,9 +107,9 @@ number_of_key key = get_or key_numbers key 0
 
 -- "a text with a bad line makes no sheet"; of any other it is what the writer of 02's #106 writes for its settings
 abbrev pub make_answer : ℕ → Option SheetFault → ℕ → Making
-make_answer zero none size = making.Made size
-make_answer zero (some f) size = making.Refused f
-make_answer (suc bad) refusal size = making.Wrong (suc bad)
+make_answer zero none size = Ok size
+make_answer zero (some f) size = Err (not_made.Refused f)
+make_answer (suc bad) refusal size = Err (not_made.Wrong (suc bad))
 
 abbrev pub make_room : ℕ → Option SheetFault → List ℕ → List ℕ → List ℕ
 make_room zero none sheet room = over sheet room
@@ -129,12 +128,12 @@ Makes text list room r list' room' =
 
 -- a line without a word is `words` too
 abbrev pub wrong_answer : Option EditFault → LineFault → Adding
-wrong_answer (some f) wrong = adding.Refused f
-wrong_answer none wrong = adding.Wrong wrong
+wrong_answer (some f) wrong = Err (not_added.Refused f)
+wrong_answer none wrong = Err (not_added.Wrong wrong)
 
 abbrev pub added_answer : Option EditFault → ℕ → Adding
-added_answer (some f) size = adding.Refused f
-added_answer none size = adding.Added size
+added_answer (some f) size = Err (not_added.Refused f)
+added_answer none size = Ok size
 
 -- "a sheet that is not right is told first (65 to 70), then the line's own key, then 78, 79"
 abbrev pub add_answer : Line → List ℕ → List ℕ → ℕ → Adding

@@ -12,7 +12,8 @@ const MANY: u8 = 9;
 const ORDER: u8 = 10;
 
 // What was gathered so far: how many settings, how long their values are together, the nearest one
-// before, how many lines were bad, and how many numbers were told of them.
+// before, how many lines were bad, and how many numbers were told of them. Where none is before, that
+// is all zeros and no Option, since `reports_of` begins so.
 #[derive(Clone, Copy)]
 pub(crate) struct Page {
     pub many: usize,

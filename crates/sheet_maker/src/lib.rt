@@ -5,7 +5,7 @@
 
 mod gathering;
 
-ghost use Rattle.std.specs.Prelude.{◌≡◌};
+ghost use Rattle.std.specs.Prelude.{◌≡◌, ◌<◌, MatchOption, Err};
 ghost use Rattle.first.specs.First.{first_place};
 ghost use Rattle.setting.specs.Setting.{rows_in, heads};
 ghost use Rattle.sheet_editor.specs.Editor.{sheet_refusal, same_key};
@@ -14,18 +14,16 @@ ghost use Rattle.sheet_maker.specs.Maker.{Makes, AddsLine, Finds, Keys, NumbersK
 use setting::{Head, ROW};
 use sheet::HEADER;
 
-// How long the sheet of a text is, how many of its lines are bad, or why none is written.
+// How many of a text's lines are bad, or why no sheet is written.
 #[derive(Clone, Copy)]
-pub enum Making {
-    Made(usize),
+pub enum NotMade {
     Wrong(usize),
     Refused(setting::Fault),
 }
 
-// How long the sheet is with the new setting, what is wrong with its line, or why it stays as it is.
+// What is wrong with the new setting's line, or why the sheet stays as it is.
 #[derive(Clone, Copy)]
-pub enum Adding {
-    Added(usize),
+pub enum NotAdded {
     Wrong(sheet_line::Fault),
     Refused(sheet_editor::Fault),
 }
@@ -58,56 +56,50 @@ pub fn key(fault: sheet_line::Fault) -> u8
     }
 }
 
-// Writes the sheet of a text into the room's first bytes. Of each bad line three numbers go into the
-// list: which line it is, which word, and its key; a text with a bad line writes no sheet. All else
-// of the list and of the room stays.
-pub fn make(text: &[u8], list: &mut [u64], room: &mut [u8]) -> Making
+// Writes the sheet of a text into the room's first bytes, and answers how long it is. Of each bad line
+// three numbers go into the list: which line it is, which word, and its key; a text with a bad line
+// writes no sheet. All else of the list and of the room stays.
+pub fn make(text: &[u8], list: &mut [u64], room: &mut [u8]) -> Result<usize, NotMade>
     ensures { Makes text.now list.old room.old result list.new room.new }
 {
     let mut rows = [0u8; 1024];
     let mut values = [0u8; 30720];
     let page = gathering::gather(text, &mut rows, &mut values, list);
     if 0 < page.wrong {
-        return Making::Wrong(page.wrong);
+        return Err(NotMade::Wrong(page.wrong));
     }
     let many = ROW * page.many;
     let size = page.size;
-    match sheet_writer::write(&rows[0..many], &values[0..size], room) {
-        Ok(n) => Making::Made(n),
-        Err(fault) => Making::Refused(fault),
-    }
+    sheet_writer::write(&rows[0..many], &values[0..size], room).map_err(NotMade::Refused)
 }
 
 // Adds the setting of a line to the sheet that is the room's first `size` bytes, where it stands in
 // order. Answers the new length. Bytes past it stay, and all of the room where nothing was added.
-pub fn add(room: &mut [u8], size: usize, line: &[u8]) -> Adding
+pub fn add(room: &mut [u8], size: usize, line: &[u8]) -> Result<usize, NotAdded>
     ensures { AddsLine room.old size line.now result room.new }
 {
     let mut value = [0u8; 240];
     match sheet_line::read(line, &mut value) {
-        Ok(None) => not_added(&room[..], size, sheet_line::Fault::FewWords),
-        Err(fault) => not_added(&room[..], size, fault),
+        Ok(None) => Err(not_added(&room[..], size, sheet_line::Fault::FewWords)),
+        Err(fault) => Err(not_added(&room[..], size, fault)),
         Ok(Some(record)) => {
             let head = record.head;
             let long = record.size;
-            match sheet_editor::add(room, size, head, &value[0..long]) {
-                Ok(n) => Adding::Added(n),
-                Err(fault) => Adding::Refused(fault),
-            }
+            sheet_editor::add(room, size, head, &value[0..long]).map_err(NotAdded::Refused)
         }
     }
 }
 
 // Nothing is added: because of the sheet, or else because of the line.
-fn not_added(room: &[u8], size: usize, wrong: sheet_line::Fault) -> Adding
-    ensures { result ≡ wrong_answer (sheet_refusal room.now size) wrong }
+fn not_added(room: &[u8], size: usize, wrong: sheet_line::Fault) -> NotAdded
+    ensures { wrong_answer (sheet_refusal room.now size) wrong ≡ Err result }
 {
     if room.len() < size {
-        return Adding::Refused(sheet_editor::Fault::Overstated);
+        return NotAdded::Refused(sheet_editor::Fault::Overstated);
     }
     match sheet::check(&room[0..size]) {
-        Err(fault) => Adding::Refused(sheet_editor::Fault::WrongSheet(fault)),
-        Ok(_) => Adding::Wrong(wrong),
+        Err(fault) => NotAdded::Refused(sheet_editor::Fault::WrongSheet(fault)),
+        Ok(_) => NotAdded::Wrong(wrong),
     }
 }
 
@@ -120,19 +112,16 @@ pub fn find(sheet: &[u8], unit: u8, register: u8) -> usize
         Err(_) => 0,
         Ok(n) => {
             let end = HEADER + ROW * n;
-            first_of(&sheet[HEADER..end], unit, register)
+            first_of(&sheet[HEADER..end], unit, register).unwrap_or(n)
         }
     }
 }
 
-// The first row of a module and register; how many there are where none is.
-fn first_of(rows: &[u8], unit: u8, register: u8) -> usize
-    ensures { result ≡ first_place (is_key unit register (heads rows.now)) (rows_in rows.now) }
+// The first row of a module and register.
+fn first_of(rows: &[u8], unit: u8, register: u8) -> Option<usize>
+    ensures { MatchOption result (rows_in rows.now ≡ first_place (is_key unit register (heads rows.now)) (rows_in rows.now)) (λ k. (k ≡ first_place (is_key unit register (heads rows.now)) (rows_in rows.now)) × (k < rows_in rows.now)) }
 {
-    let n = rows.len() / ROW;
-    (0..n)
-        .find(|k| is_of(setting::head_at(rows, *k), unit, register))
-        .unwrap_or(n)
+    (0..rows.len() / ROW).find(|k| is_of(setting::head_at(rows, *k), unit, register))
 }
 
 fn is_of(head: Head, unit: u8, register: u8) -> bool

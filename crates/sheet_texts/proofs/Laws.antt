@@ -44,8 +44,8 @@ use Rattle.sheet_line.proofs.There.{Proper}
 use Rattle.sheet_teller.specs.Answers.{Telling}
 use Rattle.sheet_teller.specs.Teller.{text_of, show_refusal, Shows}
 use Rattle.sheet_teller.proofs.Laws.{show_done}
-use Rattle.sheet_maker.specs.declared.Making.{Making}
-use Rattle.sheet_maker.specs.declared.Making.TheVariants as making
+use Rattle.sheet_maker.specs.Answers.{Making}
+use Rattle.sheet_maker.specs.declared.NotMade.TheVariants as not_made
 use Rattle.sheet_maker.specs.Maker.{in_front, lines_of, said, settings_of, key_of, report_of, many_after, nearest, reports_of, bad_in, number_of_key}
 use Rattle.sheet_maker.specs.Maker.{make_answer, make_room, make_refusal, Makes, key_for, Finds}
 use Rattle.sheet_maker.proofs.Whole.{said_so, settings_sized}
@@ -60,19 +60,19 @@ use Rattle.sheet_texts.proofs.Register.{is_at, decides_key, none_wrong, found_pl
 -- ---- a sheet made of a text
 
 module _ (sheet room : List ℕ) (n : ℕ) (room' : List ℕ) where
-  is_made : (bad : ℕ) (o : Option SheetFault) (size : ℕ) → making.Made size ≡ make_answer bad o n → room' ≡ make_room bad o sheet room
+  is_made : (bad : ℕ) (o : Option SheetFault) (size : ℕ) → Ok size ≡ make_answer bad o n → room' ≡ make_room bad o sheet room
       → (bad ≡ 0) × (o ≡ none) × (size ≡ n) × (room' ≡ over sheet room)
   is_made zero none size e q = (refl, refl, (cc), q)
   is_made zero (some f) size e q = clash (cc)
   is_made (suc bad) o size e q = clash (cc)
 
-  is_refused_lem : (bad : ℕ) (o : Option SheetFault) (f : SheetFault) → making.Refused f ≡ make_answer bad o n → room' ≡ make_room bad o sheet room
+  is_refused_lem : (bad : ℕ) (o : Option SheetFault) (f : SheetFault) → Err (not_made.Refused f) ≡ make_answer bad o n → room' ≡ make_room bad o sheet room
       → (bad ≡ 0) × (o ≡ some f) × (room' ≡ room)
   is_refused_lem zero none f e q = clash (cc)
   is_refused_lem zero (some g) f e q = (refl, (cc), q)
   is_refused_lem (suc bad) o f e q = clash (cc)
 
-  is_wrong : (bad : ℕ) (o : Option SheetFault) (w : ℕ) → making.Wrong w ≡ make_answer bad o n → room' ≡ make_room bad o sheet room
+  is_wrong : (bad : ℕ) (o : Option SheetFault) (w : ℕ) → Err (not_made.Wrong w) ≡ make_answer bad o n → room' ≡ make_room bad o sheet room
       → (1 ≤ w) × (w ≡ bad) × (room' ≡ room)
   is_wrong zero none w e q = clash (cc)
   is_wrong zero (some f) w e q = clash (cc)
@@ -88,7 +88,7 @@ unfolding settings_of
 handed_text text = handed_back (settings_of text) (settings_sized (lines_of text))
 
 -- "a text with a bad line makes no sheet": of what was made no line is bad, and it is the sheet of the text's settings
-pub made_of : (text list room : List ℕ) (size : ℕ) (list' room' : List ℕ) → Makes text list room (making.Made size) list' room'
+pub made_of : (text list room : List ℕ) (size : ℕ) (list' room' : List ℕ) → Makes text list room (Ok size) list' room'
     → MadeOf text room size room' × (list' ≡ list)
 made_of text list room size list' room' p =
     let ss = settings_of text in
@@ -124,7 +124,7 @@ refused_narrow settings room f w e =
     (λ h. ⊎_elim (λ h. absurd (unrefused.1.1.0 h.0)) (λ h. ⊎_elim (λ h. (h.1, rw back at h.0)) (λ h. absurd h.1) h.1) h.1) h.1)
     ((refused_exactly (write_rows rows values room) (write_refusal rows values room) (write_ranked rows values room) f).0 e)
 
-pub make_refused : (text list room : List ℕ) (f : SheetFault) (list' room' : List ℕ) → Makes text list room (making.Refused f) list' room'
+pub make_refused : (text list room : List ℕ) (f : SheetFault) (list' room' : List ℕ) → Makes text list room (Err (not_made.Refused f)) list' room'
     → (f ≡ NoRoom) × (length room < length (sheet_of (settings_of text))) × (list' ≡ list) × (room' ≡ room)
 make_refused text list room f list' room' p =
     let ss = settings_of text in
@@ -134,7 +134,7 @@ make_refused text list room f list' room' p =
     (narrow.0, narrow.1, untouched text list list' clean p.1, d.2)
 
 -- "Every bad line is told": so many, three numbers for each
-pub make_wrong : (text list room : List ℕ) (n : ℕ) (list' room' : List ℕ) → Makes text list room (making.Wrong n) list' room'
+pub make_wrong : (text list room : List ℕ) (n : ℕ) (list' room' : List ℕ) → Makes text list room (Err (not_made.Wrong n)) list' room'
     → (1 ≤ n) × (n ≡ bad_in text) × (length (reports_of text) ≡ 3 * n) × (list' ≡ over (reports_of text) list) × (room' ≡ room)
 make_wrong text list room n list' room' p =
     let ss = settings_of text in
@@ -144,7 +144,7 @@ make_wrong text list room n list' room' p =
 -- and the other way round: a text of which no line is bad is made a sheet where there is room for it
 pub make_done : (text list room : List ℕ) (r : Making) (list' room' : List ℕ) → reports_of text ≡ [] → length (sheet_of (settings_of text)) ≤ length room
     → Makes text list room r list' room'
-    → (r ≡ making.Made (length (sheet_of (settings_of text)))) × (list' ≡ list) × (room' ≡ over (sheet_of (settings_of text)) room)
+    → (r ≡ Ok (length (sheet_of (settings_of text)))) × (list' ≡ list) × (room' ≡ over (sheet_of (settings_of text)) room)
 make_done text list room r list' room' clean wide p =
     let ss = settings_of text in
     let rows = rows_for ss in
@@ -152,12 +152,12 @@ make_done text list room r list' room' clean wide p =
     let bad : bad_in text ≡ 0 = rw clean refl in
     let none_refuses : write_refusal rows values room ≡ none =
     (done_exactly (write_rows rows values room) (write_refusal rows values room) (write_ranked rows values room)).1 (none_refused ss room (writable_text text clean) wide) in
-    let answer : r ≡ making.Made (length (sheet_of ss)) = rw (bad, none_refuses) at p.0 in
+    let answer : r ≡ Ok (length (sheet_of ss)) = rw (bad, none_refuses) at p.0 in
     let bytes : room' ≡ over (sheet_of ss) room = rw (bad, none_refuses) at p.2 in
     (answer, untouched text list list' clean p.1, bytes)
 
 pub make_fits : (text list room : List ℕ) (r : Making) (list' room' : List ℕ) → 31756 ≤ length room → reports_of text ≡ [] → Makes text list room r list' room'
-    → (r ≡ making.Made (length (sheet_of (settings_of text)))) × (list' ≡ list) × (room' ≡ over (sheet_of (settings_of text)) room)
+    → (r ≡ Ok (length (sheet_of (settings_of text)))) × (list' ≡ list) × (room' ≡ over (sheet_of (settings_of text)) room)
 make_fits text list room r list' room' wide clean p =
     make_done text list room r list' room' clean (omega (arith, wide, sheet_most (settings_of text) (writable_text text clean))) p
 
@@ -165,7 +165,7 @@ make_fits text list room r list' room' wide clean p =
 
 pub shown_made : (sheet room : List ℕ) (n : ℕ) (room' list space : List ℕ) (r : Making) (list' space' : List ℕ) → Bytes sheet
     → Shows sheet room (Ok n) room' → n ≤ length room → Makes (take n room') list space r list' space' → length sheet ≤ length space
-    → (r ≡ making.Made (length sheet)) × (list' ≡ list) × (space' ≡ over sheet space)
+    → (r ≡ Ok (length sheet)) × (list' ≡ list) × (space' ≡ over sheet space)
 shown_made sheet room n room' list space r list' space' bytes shows fits makes wide =
     let d = show_done sheet room n room' shows in
     let text = text_of (held sheet) in
@@ -185,7 +185,7 @@ unfolding show_refusal
 show_right sheet right = rw (none_wrong sheet right) refl
 
 pub made_shown : (text list room : List ℕ) (size : ℕ) (list' room' space : List ℕ) (r : Telling) (space' : List ℕ) → CanonicalText text
-    → Makes text list room (making.Made size) list' room' → Shows (take size room') space r space' → (r ≡ Ok (length text)) × (space' ≡ over text space)
+    → Makes text list room (Ok size) list' room' → Shows (take size room') space r space' → (r ≡ Ok (length text)) × (space' ≡ over text space)
 made_shown text list room size list' room' space r space' c makes shows =
     let m : MadeOf text room size room' = (made_of text list room size list' room' makes).0 in
     rw (show_right (take size room') m.is_right, m.holds, text_back text c) at shows
@@ -202,22 +202,22 @@ canonical_exactly text = (
 
 -- ---- and of any text that made a sheet: what is shown of that sheet makes it again
 
-pub made_bytes : (text list room : List ℕ) (size : ℕ) (list' room' : List ℕ) → Makes text list room (making.Made size) list' room' → Bytes (take size room')
+pub made_bytes : (text list room : List ℕ) (size : ℕ) (list' room' : List ℕ) → Makes text list room (Ok size) list' room' → Bytes (take size room')
 made_bytes text list room size list' room' makes =
     let m : MadeOf text room size room' = (made_of text list room size list' room' makes).0 in
     rw (m.bytes, m.long, take_at (sheet_of (settings_of text)) (drop (length (sheet_of (settings_of text))) room) (length (sheet_of (settings_of text))) refl)
     (bytes_sheet (settings_of text) (text_proper text))
 
 pub made_again : (text list room : List ℕ) (size : ℕ) (list' room' space : List ℕ) (n : ℕ) (space' told other : List ℕ) (r : Making) (told' other' : List ℕ)
-    → Makes text list room (making.Made size) list' room' → Shows (take size room') space (Ok n) space' → n ≤ length space
+    → Makes text list room (Ok size) list' room' → Shows (take size room') space (Ok n) space' → n ≤ length space
     → Makes (take n space') told other r told' other' → size ≤ length other
-    → (r ≡ making.Made size) × (told' ≡ told) × (other' ≡ over (take size room') other)
+    → (r ≡ Ok size) × (told' ≡ told) × (other' ≡ over (take size room') other)
 made_again text list room size list' room' space n space' told other r told' other' makes shows fits again wide =
     let m : MadeOf text room size room' = (made_of text list room size list' room' makes).0 in
     let long : length (take size room') ≡ size =
     length-take-le size room' (omega (arith, ap length m.bytes, length-append (sheet_of (settings_of text)) (drop size room), m.long)) in
     let d = shown_made (take size room') space n space' told other r told' other' (made_bytes text list room size list' room' makes) shows fits again (rw long wide) in
-    (d.0 ∙ ap making.Made long, d.1, d.2)
+    (d.0 ∙ ap Ok long, d.1, d.2)
 
 -- ---- the sheet without one register
 

@@ -24,10 +24,9 @@ use Rattle.sheet_line.specs.Line.{said_by, head_in, value_in, setting_in, Reads}
 use Rattle.sheet_line.specs.Answers.{Line}
 use Rattle.sheet_line.specs.declared.Fault.{Fault as LineFault}
 use Rattle.sheet_line.specs.declared.Fault.TheVariants.{FewWords}
-use Rattle.sheet_maker.specs.declared.Making.{Making}
-use Rattle.sheet_maker.specs.declared.Making.TheVariants as making
-use Rattle.sheet_maker.specs.declared.Adding.{Adding}
-use Rattle.sheet_maker.specs.declared.Adding.TheVariants as adding
+use Rattle.sheet_maker.specs.Answers.{Making, Adding}
+use Rattle.sheet_maker.specs.declared.NotMade.TheVariants as not_made
+use Rattle.sheet_maker.specs.declared.NotAdded.TheVariants as not_added
 use Rattle.sheet_maker.specs.Maker.{lines_of, said, setting_of, settings_from, settings_of, report_of, many_after, nearest, reports_from, reports_of, bad_in, key_numbers, number_of_key}
 use Rattle.sheet_maker.specs.Maker.{make_answer, make_room, make_refusal, Makes, add_answer, add_room, added_answer, AddsLine, Finds, NumbersKey}
 use Rattle.sheet_texts.proofs.Reports.{three_each}
@@ -72,7 +71,7 @@ full_plainly many r l = rw (le-leb 128 many l) refl
 
 -- a text with a bad line makes no sheet, whatever the room is: each bad line is told
 pub make_bad : (text list room : List ℕ) (r : Making) (list' room' : List ℕ) → (reports_of text ≡ [] → ⊥) → Makes text list room r list' room'
-    → (r ≡ making.Wrong (bad_in text)) × (list' ≡ over (reports_of text) list) × (room' ≡ room)
+    → (r ≡ Err (not_made.Wrong (bad_in text))) × (list' ≡ over (reports_of text) list) × (room' ≡ room)
 make_bad text list room r list' room' bad p =
     let d = go (bad_in text) (λ z. bad (empty (reports_of text) (omega (arith, three_each text, z)))) p.0 p.2 in
     (d.0, p.1, d.1)
@@ -82,49 +81,49 @@ make_bad text list room r list' room' bad p =
     empty (x ∷ l) e = absurd (omega arith)
 
     go : (n : ℕ) → (n ≡ 0 → ⊥) → r ≡ make_answer n (make_refusal text room) (length (sheet_of (settings_of text)))
-        → room' ≡ make_room n (make_refusal text room) (sheet_of (settings_of text)) room → (r ≡ making.Wrong n) × (room' ≡ room)
+        → room' ≡ make_room n (make_refusal text room) (sheet_of (settings_of text)) room → (r ≡ Err (not_made.Wrong n)) × (room' ≡ room)
     go zero some_bad e q = absurd (some_bad refl)
     go (suc n) some_bad e q = (e, q)
 
 -- ---- a line added: "a sheet that is not right is told first (65 to 70), then the line's own key, then 78, 79"
 
 pub add_sheet_first : (room : List ℕ) (size : ℕ) (line : List ℕ) (f : SheetFault) (r : Adding) (room' : List ℕ) → size ≤ length room
-    → Checks (take size room) (Err f) → AddsLine room size line r room' → (r ≡ adding.Refused (WrongSheet f)) × (room' ≡ room)
+    → Checks (take size room) (Err f) → AddsLine room size line r room' → (r ≡ Err (not_added.Refused (WrongSheet f))) × (room' ≡ room)
 unfolding add_refusal
 add_sheet_first room size line f r room' fits checks adds = go (said line) adds
   where
     so : check_refusal (take size room) ≡ some f
     so = checked_refused (check_refusal (take size room)) (count_in (take size room)) f checks
 
-    go : (what : Line) → (r ≡ add_answer what line room size) × (room' ≡ add_room what line room size) → (r ≡ adding.Refused (WrongSheet f)) × (room' ≡ room)
+    go : (what : Line) → (r ≡ add_answer what line room size) × (room' ≡ add_room what line room size) → (r ≡ Err (not_added.Refused (WrongSheet f))) × (room' ≡ room)
     go (Ok None) p = rw (le-ltb (length room) size fits, so) at p
     go (Err g) p = rw (le-ltb (length room) size fits, so) at p
     go (Ok (Some n)) p = rw (le-ltb (length room) size fits, so) at p
 
 -- and so is a length that is stated over the room
 pub add_overstated : (room : List ℕ) (size : ℕ) (line : List ℕ) (r : Adding) (room' : List ℕ) → length room < size → AddsLine room size line r room'
-    → (r ≡ adding.Refused Overstated) × (room' ≡ room)
+    → (r ≡ Err (not_added.Refused Overstated)) × (room' ≡ room)
 unfolding add_refusal
 add_overstated room size line r room' over_long adds = go (said line) adds
   where
-    go : (what : Line) → (r ≡ add_answer what line room size) × (room' ≡ add_room what line room size) → (r ≡ adding.Refused Overstated) × (room' ≡ room)
+    go : (what : Line) → (r ≡ add_answer what line room size) × (room' ≡ add_room what line room size) → (r ≡ Err (not_added.Refused Overstated)) × (room' ≡ room)
     go (Ok None) p = rw (lt-ltb (length room) size over_long) at p
     go (Err g) p = rw (lt-ltb (length room) size over_long) at p
     go (Ok (Some n)) p = rw (lt-ltb (length room) size over_long) at p
 
 pub add_line_wrong : (room : List ℕ) (size : ℕ) (line : List ℕ) (f : LineFault) (r : Adding) (room' : List ℕ) → size ≤ length room → Right (take size room)
-    → said line ≡ Err f → AddsLine room size line r room' → (r ≡ adding.Wrong f) × (room' ≡ room)
+    → said line ≡ Err f → AddsLine room size line r room' → (r ≡ Err (not_added.Wrong f)) × (room' ≡ room)
 add_line_wrong room size line f r room' fits right is adds = rw (is, le-ltb (length room) size fits, none_wrong (take size room) right) at adds
 
 -- "without a word it is `words`"
 pub add_line_nothing : (room : List ℕ) (size : ℕ) (line : List ℕ) (r : Adding) (room' : List ℕ) → size ≤ length room → Right (take size room)
-    → said line ≡ Ok None → AddsLine room size line r room' → (r ≡ adding.Wrong FewWords) × (room' ≡ room)
+    → said line ≡ Ok None → AddsLine room size line r room' → (r ≡ Err (not_added.Wrong FewWords)) × (room' ≡ room)
 add_line_nothing room size line r room' fits right is adds = rw (is, le-ltb (length room) size fits, none_wrong (take size room) right) at adds
 
 -- and a line that says a setting adds it as the editor does: all of its laws hold of it
 abbrev pub added : Editing → Adding
-added (Ok size) = adding.Added size
-added (Err f) = adding.Refused f
+added (Ok size) = Ok size
+added (Err f) = Err (not_added.Refused f)
 
 pub add_line_is : (room : List ℕ) (size : ℕ) (line : List ℕ) (n : Record) (r : Adding) (room' : List ℕ) → said line ≡ Ok (Some n) → AddsLine room size line r room'
     → (e : Editing) × (Adds room size (head_in (words_of line)) (value_in (words_of line)) e room' × (r ≡ added e))

@@ -6,7 +6,7 @@
 ghost use Rattle.io.specs.Counts.{IsPrefixLen};
 ghost use Rattle.std.specs.Prelude.{◌≤◌, length};
 
-use sheet_maker::{Adding, Making};
+use sheet_maker::{NotAdded, NotMade};
 use sheet_teller::Order;
 use std::env::{Env, FillError};
 use std::io::Read;
@@ -248,9 +248,9 @@ fn make_of(text: &[u8], sheet: &mut [u8]) {
     }
     let mut list = [0u64; NUMBERS];
     match sheet_maker::make(text, &mut list, sheet) {
-        Making::Made(size) => give(sheet, size),
-        Making::Wrong(many) => bad_lines(&list, many),
-        Making::Refused(fault) => refused(setting::number(fault)),
+        Ok(size) => give(sheet, size),
+        Err(NotMade::Wrong(many)) => bad_lines(&list, many),
+        Err(NotMade::Refused(fault)) => refused(setting::number(fault)),
     }
 }
 
@@ -326,15 +326,15 @@ fn add(rt: HostRuntime, space: &mut [u8], sheet: &mut [u8]) {
     }
 }
 
-fn added(adding: Adding, sheet: &[u8]) {
+fn added(adding: Result<usize, NotAdded>, sheet: &[u8]) {
     match adding {
-        Adding::Added(size) => give(sheet, size),
-        Adding::Wrong(fault) => bad_line(
+        Ok(size) => give(sheet, size),
+        Err(NotAdded::Wrong(fault)) => bad_line(
             1,
             sheet_line::word(fault) as u64,
             sheet_maker::key(fault) as u64,
         ),
-        Adding::Refused(fault) => refused(sheet_editor::number(fault)),
+        Err(NotAdded::Refused(fault)) => refused(sheet_editor::number(fault)),
     }
 }
 

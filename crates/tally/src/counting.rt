@@ -97,14 +97,7 @@ fn placed_at(receiver: Receiver, place: u64) -> Receiver
 fn full_at(ended: receiver::Answer, tally: Tally) -> bool
     ensures { result ≡ full_at ended tally }
 {
-    match ended {
-        Ok(Some(line)) => {
-            let event = line.event;
-            is_full(event, tally)
-        }
-        Ok(None) => false,
-        Err(_) => false,
-    }
+    matches!(ended, Ok(Some(line)) if is_full(line.event, tally))
 }
 
 // Whether one more line would carry its number past the most.

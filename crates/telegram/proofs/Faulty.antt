@@ -2,15 +2,15 @@
 -- Assumes nothing.
 use Rattle.std.specs.Prelude.{Ok, Err}
 use mathlib.Core.Path.{◌≡◌, refl, sym, ap, subst, ◌∙◌}
-use mathlib.Core.Bool.{Bool, true, false, not, cond, true≢false}
+use mathlib.Core.Bool.{Bool, true, false, cond, true≢false}
 use mathlib.Core.List.{List}
 use mathlib.Core.Logic.{◌≢◌, ◌⊎◌, inl, inr, ⊎_elim}
 use mathlib.Core.Option.{Option, some, none}
 use Prim.Native.Nat.{ℕ, zero, suc, ◌+◌, ◌-◌, ◌≤◌, ◌<◌}
 use native.Mathlib.Omega.{arith}
-use borrow.Author.Tests.{lt-ltb, le-ltb, ltb-true, ltb-false, eq-eqb, ne_eqb}
+use borrow.Author.Tests.{lt-ltb, le-ltb, ltb-true, ltb-false}
 use lib.Dec.{ltb}
-use lib.ListN.{length, get_or, get_or-eq_default}
+use lib.ListN.{length, get_or}
 use Rattle.first.proofs.Laws.{Ended, ended}
 use Rattle.frame.specs.Frame.{between}
 use Rattle.rows.proofs.Laws.{decides_eq, decides_and, decides_not, told_true, told_false, refused_exactly, clash}
@@ -26,17 +26,6 @@ use Rattle.telegram.specs.Read.{Reads, Judges, Places}
 use Rattle.telegram.specs.declared.Fault.{Fault}
 use Rattle.telegram.specs.declared.Fault.TheVariants.{NotFramed, StrayEnd, BadSubstitution, ShortMessage, LongMessage, NoRoom, CheckFault, ZeroAddress, UnknownType}
 use Rattle.telegram.specs.Answers.{Reading}
-
--- ---- one place
-
-pub other_byte : (frame : List ℕ) (at : ℕ) → byte frame at ≢ 94 → false ≡ is_faulty frame at
-other_byte frame at other = rw (ne_eqb (byte frame at) 94 other)
-
-pub by_next : (frame : List ℕ) (at : ℕ) → byte frame at ≡ 94 → (follows : Bool) → follows ≡ is_substitute (byte frame (at + 1)) → not follows ≡ is_faulty frame at
-by_next frame at is follows told = rw (eq-eqb (byte frame at) 94 is, ← told)
-
-pub at-end : (frame : List ℕ) (at : ℕ) → byte frame at ≡ 94 → length frame ≤ at + 1 → true ≡ is_faulty frame at
-at-end frame at is past = rw (eq-eqb (byte frame at) 94 is, get_or-eq_default frame 0 past)
 
 -- ---- the whole frame
 

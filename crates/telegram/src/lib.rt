@@ -90,15 +90,8 @@ pub fn place(fault: Fault) -> usize
     ensures { Places fault result }
 {
     match fault {
-        Fault::NotFramed => 0,
-        Fault::StrayEnd => 0,
         Fault::BadSubstitution(place) => place,
-        Fault::ShortMessage => 0,
-        Fault::LongMessage => 0,
-        Fault::NoRoom => 0,
-        Fault::CheckFault => 0,
-        Fault::ZeroAddress => 0,
-        Fault::UnknownType => 0,
+        _ => 0,
     }
 }
 
@@ -107,8 +100,5 @@ pub fn place(fault: Fault) -> usize
 pub fn why(reading: Result<Fields, Fault>) -> Fault
     ensures { Tells reading result }
 {
-    match reading {
-        Err(fault) => fault,
-        Ok(_) => Fault::NotFramed,
-    }
+    reading.err().unwrap_or(Fault::NotFramed)
 }

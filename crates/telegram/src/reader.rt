@@ -4,7 +4,7 @@ ghost use Rattle.telegram.specs.Read.{not_framed, has_stray_end, bad_place, is_f
 ghost use Rattle.frame.specs.Frame.{between, message_of, restored};
 ghost use Rattle.lent.specs.Lent.{over};
 ghost use Rattle.rows.specs.Rows.{first_row_of};
-ghost use Rattle.std.specs.Prelude.{◌≡◌, false, ◌-◌, ◌≤◌, ◌<◌, length, take, drop};
+ghost use Rattle.std.specs.Prelude.{◌≡◌, false, ◌-◌, ◌≤◌, ◌<◌, length, take, drop, MatchOption};
 ghost use Rattle.std.proofs.Math.Option.{none};
 
 use crate::{DATA_AT, Fault, Fields, LONGEST, SHORTEST, TOGGLE_BITS};
@@ -85,8 +85,7 @@ fn framing(frame: &[u8]) -> Result<(), Fault>
     if stray_end(bytes) {
         return Err(Fault::StrayEnd);
     }
-    let place = bad_place(frame);
-    if place < frame.len() {
+    if let Some(place) = bad_place(frame) {
         return Err(Fault::BadSubstitution(place));
     }
     Ok(())
@@ -129,16 +128,16 @@ fn stray_end(bytes: &[u8]) -> bool
     bytes.iter().any(|byte| *byte == END || *byte == START)
 }
 
-// The place of the first faulty 94; the frame's length where there is none.
-fn bad_place(frame: &[u8]) -> usize
-    ensures { result ≡ bad_place frame.now }
+// The place of the first faulty 94, if there is one.
+fn bad_place(frame: &[u8]) -> Option<usize>
+    ensures { MatchOption result (length frame.now ≤ bad_place frame.now) (λ place. (place ≡ bad_place frame.now) × (place < length frame.now)) }
 {
     for at in 0..frame.len() {
         if is_faulty(frame, at) {
-            return at;
+            return Some(at);
         }
     }
-    frame.len()
+    None
 }
 
 // Whether at a place stands a 94 whose next byte does not make a right pair with it.
@@ -146,22 +145,13 @@ fn is_faulty(frame: &[u8], at: usize) -> bool
     requires { at < length frame.now }
     ensures { result ≡ is_faulty frame.now at }
 {
-    if frame[at] != SUBSTITUTION {
-        return false;
-    }
     let next = at + 1;
-    if next < frame.len() {
-        return !is_substitute(frame[next]);
-    }
-    true
+    frame[at] == SUBSTITUTION && !(next < frame.len() && is_substitute(frame[next]))
 }
 
 // 94 stands for 10, 13 or 94 only with one of these after it.
 fn is_substitute(byte: u8) -> bool
     ensures { result ≡ is_substitute byte }
 {
-    match byte {
-        74 | 77 | 158 => true,
-        _ => false,
-    }
+    matches!(byte, 74 | 77 | 158)
 }

@@ -138,8 +138,5 @@ pub fn bars(ticket: Ticket, job: u32, folder: u32) -> bool
     ensures { TellsBarred ticket job folder result }
 {
     let asked = ticket.asked;
-    if ticket.live {
-        return asked.folder == folder && asked.job != job;
-    }
-    false
+    ticket.live && asked.folder == folder && asked.job != job
 }

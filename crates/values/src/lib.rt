@@ -56,7 +56,7 @@ fn signed(kind: u8) -> bool
     ensures { result ≡ is_signed kind }
 {
     let at = kind as usize;
-    if at < 8 { SIGNED[at] } else { false }
+    at < 8 && SIGNED[at]
 }
 
 fn wide(byte: u8) -> u64

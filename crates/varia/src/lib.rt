@@ -141,7 +141,7 @@ pub fn set_long(
     set_edge(filters, desk, Pass::Long, tenths, wait, clock, room)
 }
 
-// A refusal of the box, and then the desk. A refusal leaves the box, the desk and every byte of the room.
+// What the box refuses, and then the desk. A refusal leaves the box, the desk and every byte of the room.
 fn set_edge(
     filters: FilterBox,
     desk: Desk,

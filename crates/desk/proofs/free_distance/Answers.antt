@@ -1,10 +1,10 @@
-use mathlib.Core.Path.{refl, sym}
+use mathlib.Core.Path.{refl}
 use native.Mathlib.Omega.{arith}
 use Rattle.first.proofs.Laws.{first-none}
 use Rattle.ticket.specs.Rest.{is_free}
 use Rattle.desk.specs.Open.{place_from, distance_of}
 use Rattle.desk.specs.Desk.{ticket_at}
-use Rattle.desk.proofs.Calls.{free_found}
+use Rattle.desk.proofs.Calls.{free_found, under_none}
 use Rattle.desk.proofs.Standing.{passed_free, passed_more}
 use Rattle.desk.proofs.free_distance.Goals as goal
 
@@ -44,5 +44,6 @@ pub returns : goal.returns
 unfolding distance_of
 returns c =
     let args = c.args in
-    sym (first-none (λ i. is_free args.clock (ticket_at args.desk (place_from args.desk.turn i))) 95
-    (λ i l. c.loop-k.invariant.1 i (omega (arith, c.loop-k-test.false))))
+    under_none 95 _
+    (rw (first-none (λ i. is_free args.clock (ticket_at args.desk (place_from args.desk.turn i))) 95
+    (λ i l. c.loop-k.invariant.1 i (omega (arith, c.loop-k-test.false)))) (omega arith))

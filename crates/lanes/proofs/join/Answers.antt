@@ -1,10 +1,10 @@
 use mathlib.Core.Path.{sym, ◌∙◌}
-use Rattle.lanes.proofs.Calls.{join_denied, join_allowed}
+use Rattle.lanes.proofs.Calls.{told_near, told_far, full_at, joined_at, join_denied, join_nowhere, join_allowed}
 use Rattle.request.proofs.Laws.{asked_denied, asked_allowed, allowed_writable}
 use Rattle.lanes.proofs.join.Goals as goal
 
-pub join_at-requires : goal.join_at-requires
-join_at-requires c = (allowed_writable _ _ (asked_allowed _ (sym c.in-Ok.is ∙ c.judge.ensures))).0
+pub waiting_with-requires : goal.waiting_with-requires
+waiting_with-requires c = (allowed_writable _ _ (asked_allowed _ (sym c.in_default.is ∙ c.judge.ensures))).0
 
 pub returns-in-Err : goal.returns-in-Err
 returns-in-Err c =
@@ -12,8 +12,26 @@ returns-in-Err c =
     rw (join_denied s.lanes s.asked _ _ (asked_denied _ _ (sym c.in-Err.is ∙ c.judge.ensures)))
     c.not_joined.ensures
 
-pub returns-in-Ok : goal.returns-in-Ok
-returns-in-Ok c =
+pub returns-in_default-lane_for : goal.returns-in_default-lane_for
+returns-in_default-lane_for c =
     let s = c.args in
-    join_allowed s.lanes s.asked s.«data».now _ _
-    (asked_allowed _ (sym c.in-Ok.is ∙ c.judge.ensures)) c.lane_for.ensures c.join_at.ensures
+    rw (join_nowhere s.lanes s.asked s.«data».now (asked_allowed _ (sym c.in_default.is ∙ c.judge.ensures)) (told_far _ _ c.lane_for.ensures c.in_default-lane_for.is))
+    c.not_joined-in_default-lane_for.ensures
+
+pub lane_at-lane-requires : goal.lane_at-lane-requires
+lane_at-lane-requires c = (told_near _ _ _ c.lane_for.ensures c.in-Some.is).1
+
+pub returns-then-lane-ge4 : goal.returns-then-lane-ge4
+returns-then-lane-ge4 c =
+    let s = c.args in
+    let told = told_near _ _ _ c.lane_for.ensures c.in-Some.is in
+    join_allowed s.lanes s.asked s.«data».now _ _ (asked_allowed _ (sym c.in_default.is ∙ c.judge.ensures)) told.0
+    (full_at s.lanes _ s.asked s.«data».now _ _ told.1 c.lane_at-lane.ensures c.if-lane-ge4.true c.not_joined-then-lane-ge4.ensures)
+
+pub returns : goal.returns
+returns c =
+    let s = c.args in
+    let told = told_near _ _ _ c.lane_for.ensures c.in-Some.is in
+    join_allowed s.lanes s.asked s.«data».now _ _ (asked_allowed _ (sym c.in_default.is ∙ c.judge.ensures)) told.0
+    (joined_at s.lanes _ s.asked s.«data».now _ _ told.1 c.lane_at-lane.ensures c.if-lane-ge4.false
+    (rw (c.with_last.ensures, c.waiting_with.ensures) at c.with_lane.ensures))

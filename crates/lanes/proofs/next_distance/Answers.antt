@@ -7,6 +7,4 @@ use Rattle.lanes.proofs.next_distance.Goals as goal
 
 pub returns : goal.returns
 unfolding next_distance
-returns c =
-    let e = c.distance_to.ensures in
-    found (λ i. not (is_empty (lane_at c.args.lanes (place_after c.args.lanes.last i)))) c.distance_to.result (λ i l. search (rules, e.before i l)) (λ l. search (rules, e.there l)) e.within
+returns c = found (λ k. not (is_empty (lane_at c.args.lanes.now (place_after c.args.lanes.now.last k)))) _ _ c.distance_to.ensures (λ b k l s. search (rules, s))

@@ -1,5 +1,5 @@
 use Rattle.std.specs.Prelude.{Ok}
-use mathlib.Core.Path.{refl, ◌∙◌, ap}
+use mathlib.Core.Path.{refl, sym, ◌∙◌, ap}
 use lib.ListN.{replicate}
 use Rattle.sheet_maker.proofs.Steps.{value_short}
 use Rattle.sheet_maker.proofs.Whole.{nothing_added, wrong_added, line_added}
@@ -12,13 +12,12 @@ slice_bounds-add-end c =
     search rules
 
 pub returns-in-Ok-None : goal.returns-in-Ok-None
-returns-in-Ok-None c = nothing_added _ _ c.args.line.now (replicate 240 0) _ _ refl (c.in-Ok-None.is ∙ ap Ok c.in-Ok-None.field-0-is) c.read.ensures.0 c.not_added.ensures
+returns-in-Ok-None c = nothing_added _ _ c.args.line.now (replicate 240 0) _ _ refl (c.in-Ok-None.is ∙ ap Ok c.in-Ok-None.field-0-is) c.read.ensures.0 (sym c.not_added.ensures)
 
 pub returns-in-Err : goal.returns-in-Err
-returns-in-Err c = wrong_added _ _ c.args.line.now (replicate 240 0) _ _ _ refl c.in-Err.is c.read.ensures.0 c.not_added-in-Err.ensures
+returns-in-Err c = wrong_added _ _ c.args.line.now (replicate 240 0) _ _ _ refl c.in-Err.is c.read.ensures.0 (sym c.not_added-in-Err.ensures)
 
-pub returns-in-Ok : goal.returns-in-Ok
-returns-in-Ok c = line_added _ _ c.args.line.now (replicate 240 0) _ _ _ _ _ _ refl (c.in-Ok-Some.is ∙ ap Ok c.in-Ok-Some.field-0-is) c.read.ensures c.in-Ok.is c.add.ensures
-
-pub returns-in-Err-add : goal.returns-in-Err-add
-returns-in-Err-add c = line_added _ _ c.args.line.now (replicate 240 0) _ _ _ _ _ _ refl (c.in-Ok-Some.is ∙ ap Ok c.in-Ok-Some.field-0-is) c.read.ensures c.in-Err-add.is c.add.ensures
+pub returns-in-Ok-Some : goal.returns-in-Ok-Some
+returns-in-Ok-Some c =
+    line_added _ _ c.args.line.now (replicate 240 0) _ _ _ _ _ _ refl (c.in-Ok-Some.is ∙ ap Ok c.in-Ok-Some.field-0-is) c.read.ensures c.add.ensures
+    c.map_err.ensures.cases

@@ -17,4 +17,4 @@ pub returns-in-Err : goal.returns-in-Err
 returns-in-Err c = found_none c.args.sheet.now _ _ _ _ c.check.ensures c.in-Err.is
 
 pub returns-in-Ok : goal.returns-in-Ok
-returns-in-Ok c = found_at_lem c.args.sheet.now _ _ _ _ _ _ c.check.ensures c.in-Ok.is refl c.first_of.ensures
+returns-in-Ok c = found_at_lem c.args.sheet.now _ _ _ _ _ _ _ c.check.ensures c.in-Ok.is refl c.unwrap_or.ensures c.first_of.ensures

@@ -1,6 +1,6 @@
 use mathlib.Core.Path.{sym, ◌∙◌}
 use mathlib.Core.Bool.{true≢false}
-use Rattle.sheet_line.proofs.Storing.{value_fits, value_laid, value_refused, huge_refused, nothing_refused}
+use Rattle.sheet_line.proofs.Storing.{value_fits, value_laid, value_refused, unread_refused}
 use Rattle.sheet_line.proofs.reading.store.Goals as goal
 
 pub returns-in-Ok : goal.returns-in-Ok
@@ -19,14 +19,8 @@ returns-in-Err c = record {
   stored = λ t. absurd (true≢false (sym t));
 }
 
-pub returns-in-Huge : goal.returns-in-Huge
-returns-in-Huge c = record {
-  fitting = huge_refused c.args.kind c.args.word.now c.requires.0 c.requires.1 c.read.ensures c.in-Huge.is;
-  stored = λ t. absurd (true≢false (sym t));
-}
-
-pub returns-in-Nothing : goal.returns-in-Nothing
-returns-in-Nothing c = record {
-  fitting = nothing_refused c.args.kind c.args.word.now c.requires.0 c.requires.1 c.read.ensures c.requires.3 c.in-Nothing.is;
+pub returns-in_default : goal.returns-in_default
+returns-in_default c = record {
+  fitting = unread_refused c.args.kind c.args.word.now c.requires.0 c.requires.1 c.read.ensures c.requires.3 c.in_default.not-Is;
   stored = λ t. absurd (true≢false (sym t));
 }

@@ -55,8 +55,9 @@ returns-else-store c =
     let k = c.loop-k.k in
     let inv = c.loop-k.invariant in
     let words = words_in (drop c.args.at c.args.text.now) in
-    one_unfit c.args.head words c.args.space.now _ c.size-size.ensures k _ c.loop-k-test.true inv.2
-    (fit_told_lem c.args.head.kind words k inv.1 next.word c.store.ensures.fitting ∙ ap not c.if-store.false)
+    let unfit = one_unfit c.args.head words c.args.space.now _ c.size-size.ensures k _ c.loop-k-test.true inv.2
+    (fit_told_lem c.args.head.kind words k inv.1 next.word c.store.ensures.fitting ∙ ap not c.if-store.false) in
+    (unfit, c.loop-k-test.true)
 
 pub returns : goal.returns
 returns c =

@@ -1,11 +1,11 @@
-use Rattle.sheet_line.proofs.Spacing.{blank_first, blank_second, blank_last}
+use borrow.Author.Rules.{rules}
+use Rattle.sheet_line.specs.Words.{is_blank}
 use Rattle.sheet_line.proofs.words.is_blank.Goals as goal
 
-pub returns-then-byte-eq32 : goal.returns-then-byte-eq32
-returns-then-byte-eq32 c = blank_first _ c.if-byte-eq32.true
+pub returns-in-32 : goal.returns-in-32
+unfolding is_blank
+returns-in-32 c = search rules
 
-pub returns-then-byte-eq9 : goal.returns-then-byte-eq9
-returns-then-byte-eq9 c = blank_second _ c.if-byte-eq32.false c.if-byte-eq9.true
-
-pub returns : goal.returns
-returns c = blank_last _ c.if-byte-eq32.false c.if-byte-eq9.false
+pub returns-in_default : goal.returns-in_default
+unfolding is_blank
+returns-in_default c = search rules
