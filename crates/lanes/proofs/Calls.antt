@@ -1,5 +1,6 @@
 -- What each return of the calls gives, over plain numbers, requests and lanes.
 -- Assumes nothing.
+use Rattle.desk.specs.Desk.{under}
 use Rattle.lanes.specs.Answers.{joining}
 use Rattle.std.specs.Prelude.{Ok, Err, Option, Some, None, MatchOption}
 use mathlib.Core.Path.{◌≡◌, refl, sym, ap, ap₂, subst, ◌∙◌}
@@ -23,7 +24,7 @@ use Rattle.desk.specs.declared.AfterOpen.{AfterOpen}
 use Rattle.desk.specs.declared.Desk.{Desk}
 use Rattle.desk.specs.declared.Fault.{Fault as DeskFault}
 use Rattle.desk.specs.Answers.{Opening}
-use Rattle.lanes.specs.Lanes.{lane_at, waiting_at, waiting_with, with_last, with_lane, without, own_lane, empty_lane, under, FirstOf16}
+use Rattle.lanes.specs.Lanes.{lane_at, waiting_at, waiting_with, with_last, with_lane, without, own_lane, empty_lane, FirstOf16}
 use Rattle.lanes.specs.Join.{lane_for, join_refusal, Joins, JoinsAt, NotJoined}
 use Rattle.lanes.specs.Grant.{place_after, next_distance, next_place, grant_refusal, takes_out, moves_on, served_from, from_desk, OpensWaiting, Serves, Grants}
 use Rattle.lanes.specs.Withdraw.{withdraw_refusal, Withdraws}

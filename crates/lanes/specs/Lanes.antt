@@ -65,10 +65,6 @@ is_empty lane = eqb lane.size 0
 abbrev pub is_theirs : Lane → ℕ → Bool
 is_theirs lane job = not (eqb lane.size 0) && eqb (waiting_at lane 0).asked.job job
 
--- what is below the most there may be, or none
-unfoldable pub under : ℕ → ℕ → Option ℕ
-under most n = cond (ltb n most) (Some n) None
-
 -- a search over all sixteen, going round, told by what a test said of each: the first of which it holds, or none
 unfoldable pub FirstOf16 : (ℕ → Bool → Type 0) → Option ℕ → Type 0
 FirstOf16 Said (Some n) = (n < 16) × ((k : ℕ) → k < n → Said k false) × Said n true

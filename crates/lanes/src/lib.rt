@@ -4,7 +4,8 @@
 #![tactic(auto)]
 
 ghost use Rattle.lanes.specs.Lanes.{Fresh, Numbers, lane_at, is_theirs, is_empty, waiting_with, with_last, with_lane, next_at, without};
-ghost use Rattle.lanes.specs.Lanes.{own_lane, empty_lane, under, FirstOf16};
+ghost use Rattle.lanes.specs.Lanes.{own_lane, empty_lane, FirstOf16};
+ghost use Rattle.desk.specs.Desk.{under};
 ghost use Rattle.lanes.specs.Join.{Joins, NotJoined, lane_for};
 ghost use Rattle.lanes.specs.Grant.{Grants, Serves, NotGranted, OpensWith, OpensWaiting, next_distance, takes_out, moves_on, served_from, from_desk};
 ghost use Rattle.lanes.specs.Withdraw.{Withdraws, NotWithdrawn};
