@@ -11,8 +11,6 @@ use borrow.Author.Tests.{leb-true, leb-false}
 use lib.Dec.{leb}
 use lib.ListN.{length, get_or, take, drop, length-drop, length-take, drop_of_length-le}
 use lib.Seq.{take_all, take-nil, length-take-le, paste, get_or-take, get_or-drop}
-use borrow.Rule.Slice.PartMut.{put_mid}
-use Rattle.std.proofs.lemmas.Slice.{put_mid-paste}
 use Rattle.std.specs.List.{copy_within}
 use Rattle.lent.specs.Lent.{over, over_at, Moves}
 use Rattle.lent.proofs.Laws.{over_at_none, over_at_past, over_at_is, length-over_at}
@@ -189,19 +187,6 @@ moved room from to size there n room' source target p q copied =
     as_many room from to size there n room' p q
     (copied ∙ ap (λ (m : ℕ). paste room to (drop from room) m) many
     ∙ pasted room (drop from room) to n (rw (length-drop from room) (omega (arith, within.0))) within.1)
-
-pub laid : (bytes room part : List ℕ) (at size : ℕ) → at < length room
-    → size ≡ cond (leb (length bytes) (length room - at)) (length bytes) (length room - at) → part ≡ take size bytes
-    → put_mid at (at + size - at) room part ≡ over_at at bytes room
-laid bytes room part at size target p copied =
-    let least = least_of size (length bytes) (length room - at) p in
-    let many : size ≡ at + size - at = omega arith in
-    let whole : length (take size bytes) ≡ size = length-take-le size bytes least.0 in
-    put_mid-paste at (at + size - at) room part (take size bytes) size copied many (sym whole)
-    ∙ pasted room (take size bytes) at size (omega (arith, whole)) (omega (arith, target, least.1))
-    ∙ ap (λ (l : List ℕ). over_at at l room) (take_all size (take size bytes) (omega (arith, whole)))
-    ∙ ⊎_elim (λ e. ap (λ (l : List ℕ). over_at at l room) (take_all size bytes (omega (arith, e))))
-    (λ e. over_at_room at size bytes room (omega (arith, e))) least.2
 
 -- ---- what a move is, place by place
 

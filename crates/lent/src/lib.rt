@@ -10,11 +10,16 @@ ghost use Rattle.lent.specs.Lent.{Lays, Moves};
 pub fn lay_at(bytes: &[u8], room: &mut [u8], at: usize)
     ensures { Lays bytes.now at room.old room.new }
 {
-    if room.len() <= at {
-        return;
+    let mut to = at;
+    // byte by byte: the library's copy of a slice needs `memmove` of a host in C, and is slower for the one or two bytes that
+    // most calls lay
+    for byte in bytes {
+        if room.len() <= to {
+            return;
+        }
+        room[to] = *byte;
+        to += 1;
     }
-    let size = least(bytes.len(), room.len() - at);
-    room[at..at + size].copy_from_slice(&bytes[..size]);
 }
 
 // Moves `size` bytes of the room from place `from` on to place `to` on, as many of them as there are
