@@ -9,7 +9,7 @@ ghost use Rattle.desk.specs.Desk.{under};
 ghost use Rattle.lanes.specs.Join.{Joins, NotJoined, lane_for};
 ghost use Rattle.lanes.specs.Grant.{Grants, Serves, NotGranted, OpensWith, OpensWaiting, next_distance, takes_out, moves_on, served_from, from_desk};
 ghost use Rattle.lanes.specs.Withdraw.{Withdraws, NotWithdrawn};
-ghost use Rattle.std.specs.Prelude.{◌≡◌, ◌+◌, ◌%◌, ◌≤◌, ◌<◌, length};
+ghost use Rattle.std.specs.Prelude.{◌≡◌, ◌+◌, ◌%◌, ◌≤◌, ◌<◌, length, MatchOption};
 
 use desk::{AfterOpen, Opened};
 pub use desk::{Desk, Request};
@@ -149,10 +149,9 @@ pub fn join(lanes: Lanes, asked: Request, data: &[u8]) -> AfterJoin
     if let Err(fault) = request::judge(asked, data) {
         return not_joined(lanes, Fault::Denied(fault));
     }
-    let Some(place) = lane_for(&lanes, asked.job) else {
+    let Some((place, lane)) = lane_to_join(lanes, asked.job) else {
         return not_joined(lanes, Fault::NoLaneFree);
     };
-    let lane = lane_at(&lanes, place);
     if 4 <= lane.size {
         return not_joined(lanes, Fault::LaneFull);
     }
@@ -172,6 +171,17 @@ fn not_joined(lanes: Lanes, fault: Fault) -> AfterJoin
         lanes,
         answer: Err(fault),
     }
+}
+
+// The lane that a request of the job goes to, behind its place, if there is one. The lanes come by value:
+// to be lent to the search they are copied, and that copy is gone when the answer is there.
+fn lane_to_join(lanes: Lanes, job: u32) -> Option<(u8, Lane)>
+    ensures { MatchOption result (16 ≤ lane_for lanes job) (λ it. (it.0 ≡ lane_for lanes job) × (it.0 < 16) × (it.1 ≡ lane_at lanes it.0)) }
+{
+    let Some(place) = lane_for(&lanes, job) else {
+        return None;
+    };
+    Some((place, lane_at(&lanes, place)))
 }
 
 // The place of the lane that a request of the job goes to, if there is one.

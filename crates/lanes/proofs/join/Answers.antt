@@ -1,5 +1,5 @@
 use mathlib.Core.Path.{sym, ◌∙◌}
-use Rattle.lanes.proofs.Calls.{told_near, told_far, full_at, joined_at, join_denied, join_nowhere, join_allowed}
+use Rattle.lanes.proofs.Calls.{full_at, joined_at, join_denied, join_nowhere, join_allowed}
 use Rattle.request.proofs.Laws.{asked_denied, asked_allowed, allowed_writable}
 use Rattle.lanes.proofs.join.Goals as goal
 
@@ -12,26 +12,23 @@ returns-in-Err c =
     rw (join_denied s.lanes s.asked _ _ (asked_denied _ _ (sym c.in-Err.is ∙ c.judge.ensures)))
     c.not_joined.ensures
 
-pub returns-in_default-lane_for : goal.returns-in_default-lane_for
-returns-in_default-lane_for c =
+pub returns-in_default-lane_to_join : goal.returns-in_default-lane_to_join
+returns-in_default-lane_to_join c =
     let s = c.args in
-    rw (join_nowhere s.lanes s.asked s.«data».now (asked_allowed _ (sym c.in_default.is ∙ c.judge.ensures)) (told_far _ _ c.lane_for.ensures c.in_default-lane_for.is))
-    c.not_joined-in_default-lane_for.ensures
-
-pub lane_at-lane-requires : goal.lane_at-lane-requires
-lane_at-lane-requires c = (told_near _ _ _ c.lane_for.ensures c.in-Some.is).1
+    rw (join_nowhere s.lanes s.asked s.«data».now (asked_allowed _ (sym c.in_default.is ∙ c.judge.ensures)) c.in_default-lane_to_join.ensures)
+    c.not_joined-in_default-lane_to_join.ensures
 
 pub returns-then-lane-ge4 : goal.returns-then-lane-ge4
 returns-then-lane-ge4 c =
     let s = c.args in
-    let told = told_near _ _ _ c.lane_for.ensures c.in-Some.is in
-    join_allowed s.lanes s.asked s.«data».now _ _ (asked_allowed _ (sym c.in_default.is ∙ c.judge.ensures)) told.0
-    (full_at s.lanes _ s.asked s.«data».now _ _ told.1 c.lane_at-lane.ensures c.if-lane-ge4.true c.not_joined-then-lane-ge4.ensures)
+    let there = c.in-Some.ensures in
+    join_allowed s.lanes s.asked s.«data».now _ _ (asked_allowed _ (sym c.in_default.is ∙ c.judge.ensures)) there.0
+    (full_at s.lanes _ s.asked s.«data».now _ _ there.1 there.2 c.if-lane-ge4.true c.not_joined-then-lane-ge4.ensures)
 
 pub returns : goal.returns
 returns c =
     let s = c.args in
-    let told = told_near _ _ _ c.lane_for.ensures c.in-Some.is in
-    join_allowed s.lanes s.asked s.«data».now _ _ (asked_allowed _ (sym c.in_default.is ∙ c.judge.ensures)) told.0
-    (joined_at s.lanes _ s.asked s.«data».now _ _ told.1 c.lane_at-lane.ensures c.if-lane-ge4.false
+    let there = c.in-Some.ensures in
+    join_allowed s.lanes s.asked s.«data».now _ _ (asked_allowed _ (sym c.in_default.is ∙ c.judge.ensures)) there.0
+    (joined_at s.lanes _ s.asked s.«data».now _ _ there.1 there.2 c.if-lane-ge4.false
     (rw (c.with_last.ensures, c.waiting_with.ensures) at c.with_lane.ensures))
