@@ -90,7 +90,7 @@ fn run(mut input: Stdin, line: &mut [u8], out: &mut [u8]) {
         if n == 0 {
             break;
         }
-        gathered = feed(&chunk[..n], line, out, gathered);
+        feed(&chunk[..n], line, out, &mut gathered);
         if gathered.lost {
             return;
         }
@@ -135,43 +135,39 @@ fn next_line(made: Made, answered: u64) -> Gathered {
     }
 }
 
-// Answers every line that ends in the chunk, and gathers the one that does not.
-fn feed(chunk: &[u8], line: &mut [u8], out: &mut [u8], before: Gathered) -> Gathered {
-    let mut gathered = before;
+// Answers every line that ends in the chunk, and gathers the one that does not. What is gathered changes
+// where it lies: handed on by value it would be on the stack again and again.
+fn feed(chunk: &[u8], line: &mut [u8], out: &mut [u8], gathered: &mut Gathered) {
     for part in chunk.split_inclusive(|byte| *byte == b'\n') {
-        gathered = match part.strip_suffix(b"\n") {
+        match part.strip_suffix(b"\n") {
             Some(ended) => piece(ended, true, line, out, gathered),
             None => piece(part, false, line, out, gathered),
-        };
+        }
     }
-    gathered
 }
 
 // Adds a piece to the line, and answers the line where the piece ends it. Nothing after a lost answer.
-fn piece(part: &[u8], ends: bool, line: &mut [u8], out: &mut [u8], before: Gathered) -> Gathered {
-    if before.lost {
-        return before;
+fn piece(part: &[u8], ends: bool, line: &mut [u8], out: &mut [u8], gathered: &mut Gathered) {
+    if gathered.lost {
+        return;
     }
-    let gathered = gather(part, line, before);
+    gather(part, line, gathered);
     if ends {
-        return end_line(line, gathered, out);
+        *gathered = end_line(line, *gathered, out);
     }
-    gathered
 }
 
 // Adds a part to the line that is gathered.
-fn gather(part: &[u8], line: &mut [u8], before: Gathered) -> Gathered {
-    let used = before.used;
+fn gather(part: &[u8], line: &mut [u8], gathered: &mut Gathered) {
+    let used = gathered.used;
     lent::lay_at(part, line, used);
     let total = std::num::wrapping_add_usize(used, part.len());
-    let mut next = before;
     if LONGEST < total {
-        next.used = LONGEST;
-        next.long = true;
+        gathered.used = LONGEST;
+        gathered.long = true;
     } else {
-        next.used = total;
+        gathered.used = total;
     }
-    next
 }
 
 // Answers a line that has ended, with one write for the whole answer.
