@@ -92,6 +92,29 @@ def check_promises(text):
     return still_open
 
 
+QUOTED = re.compile(r"    (\w+) : ")
+WORD = re.compile(r"[^\W\d][\w']*")
+
+
+def check_quotes(text):
+    """Each law that is quoted, `    NAME : ..` and the lines under it, says itself in words that its own file in proofs/ has. How many there are comes back."""
+    quotes = []
+    for at, line in enumerate(text.splitlines(), 1):
+        if QUOTED.match(line):
+            quotes.append((at, []))
+        if quotes and line.startswith("    ") and quotes[-1][0] + len(quotes[-1][1]) == at:
+            quotes[-1][1].append(line)
+    files = [re.sub(r"--.*", "", names.read(p)) for p in sorted(names.CRATES.glob("*/proofs/**/*.antt"))]
+    for at, lines in quotes:
+        name, *words = WORD.findall(" ".join(lines))
+        missing = [[w for w in words if w not in said] for said in map(set, map(WORD.findall, filter(re.compile(rf"^ *pub {name} :", re.M).search, files)))]
+        if not missing:
+            fault(f"docs/PROMISES.md:{at}", f"no proofs/ has a law {name}")
+        elif all(missing):
+            fault(f"docs/PROMISES.md:{at}", f"{name} is quoted with words that its file does not have: {', '.join(min(missing, key=len))}")
+    return len(quotes)
+
+
 TOP = {"crates", "docs", "examples", "include", "tests", "tools"}
 
 
@@ -307,6 +330,7 @@ def main(words):
     text = names.read(names.ROOT / "docs" / "PROMISES.md")
     still_open = check_promises(text)
     check_others()
+    quotes = check_quotes(text)
     calls = check_calls(text)
     edits = check_edits(text)
     check_crates()
@@ -324,7 +348,7 @@ def main(words):
     for at, sentence in still_open:
         print(f"promises: open, line {at}: {sentence}")
     print(f"promises: library crates: {' '.join(names.library())}")
-    print(f"promises: {calls} public calls, {edits} wrong programs at the gate, {len(names.wrong())} on demand{said}, {len(still_open)} rows open, {len(faults)} faults")
+    print(f"promises: {calls} public calls, {edits} wrong programs at the gate, {len(names.wrong())} on demand, {quotes} laws quoted{said}, {len(still_open)} rows open, {len(faults)} faults")
     return 1 if faults else 0
 
 
